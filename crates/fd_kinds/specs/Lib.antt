@@ -1,6 +1,8 @@
+pub mod Counts
 pub mod History
 pub mod LabelMaps
 pub mod Labels
+pub mod Meaning
 pub mod Pairs
 pub mod Room
 pub mod RowOrder
