@@ -13,6 +13,7 @@ mod roomy;
 mod row;
 mod share;
 mod size;
+mod stand;
 mod store;
 #[cfg(test)]
 mod tests;
@@ -32,5 +33,6 @@ pub use roomy::Roomy;
 pub use row::{Numbered, Row, compare_rows, row_order_laws};
 pub use share::Share;
 pub use size::row_bytes;
-pub use store::{ReadRefusal, Seen, Stand, Store, WriteRefusal};
+pub use stand::Stand;
+pub use store::{ReadRefusal, Seen, Store, WriteRefusal};
 pub use text::Text;

@@ -1,7 +1,7 @@
 ghost use Rattle.std.specs.Prelude.{◌≡◌, ◌≢◌, ℕ, Bool, true, false, List, Result};
 ghost use Rattle.fd_kinds.specs.Counts.{Rose};
 
-use crate::{Answer, Batch, NoMemory, Query};
+use crate::{Answer, Batch, NoMemory, Query, Stand};
 
 /// Why a batch was not written.
 #[derive(Debug, Clone, Copy, PartialEq, Eq)]
@@ -50,14 +50,6 @@ impl From<NoMemory> for ReadRefusal {
     }
 }
 
-/// How far a store is: the numbers drawn, those synced, and the watermark.
-#[derive(Debug, Clone, Copy, PartialEq, Eq)]
-pub struct Stand {
-    pub drawn: u64,
-    pub synced: u64,
-    pub watermark: u64,
-}
-
 /// A store of batches. What a call may do is the store's own relation between its state before
 /// and after: a store that nobody else writes tells exact numbers, and one that many share tells
 /// what each of them may rely on.
@@ -68,7 +60,7 @@ pub trait Store {
     ghost use Rattle.fd_kinds.specs.declared.store.WriteRefusal.{WriteRefusal};
     ghost use Rattle.fd_kinds.specs.declared.store.ReadRefusal.{ReadRefusal};
     ghost use Rattle.fd_kinds.specs.declared.store.Seen.{Seen};
-    ghost use Rattle.fd_kinds.specs.declared.store.Stand.{Stand};
+    ghost use Rattle.fd_kinds.specs.declared.stand.Stand.{Stand};
 
     /// What a write of these rows may answer, and the state that it leaves.
     ghost write_gives: { Self → List Row → Result ℕ WriteRefusal → Self → Type 0 };
