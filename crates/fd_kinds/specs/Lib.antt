@@ -1,4 +1,5 @@
 pub mod Counts
+pub mod Digits
 pub mod History
 pub mod LabelMaps
 pub mod Labels

@@ -3,6 +3,7 @@
 
 mod batch;
 mod collect;
+mod digits;
 mod items;
 mod kinds;
 mod labels;
@@ -20,6 +21,7 @@ mod tests;
 mod text;
 
 pub use batch::{Batch, Batches, NumberedBatch, Rows};
+pub use digits::read_size;
 pub use items::{Bytes, Items};
 pub use kinds::{Pair, Pairs, Stack, Texts};
 pub use labels::{Labels, compare_labels};
