@@ -1,6 +1,7 @@
 pub mod History
 pub mod LabelMaps
 pub mod Labels
+pub mod LabelsOf
 pub mod Pairs
 pub mod Room
 pub mod RowOrder
