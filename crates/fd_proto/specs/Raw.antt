@@ -41,9 +41,9 @@ raw_profile bytes fs = record {
 }
 
 -- the profile that all of the bytes are
-abbrev pub raw_of : List ℕ → Raw
+unfoldable pub raw_of : List ℕ → Raw
 raw_of bytes = raw_profile bytes (message_in bytes (record { start = 0; end = length bytes }))
 
 -- The place of the first failure of reading: the whole field list of a message first, and then the values of its known messages and packed numbers in the order of their places, each to its full depth.
-abbrev pub profile_flaw : List ℕ → Option ℕ
+unfoldable pub profile_flaw : List ℕ → Option ℕ
 profile_flaw bytes = flaw_between bytes profile 0 (length bytes)

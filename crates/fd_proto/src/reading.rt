@@ -175,6 +175,7 @@ fn raw_profile(alloc: Global, bytes: &[u8], list: &[Field]) -> Result<Raw, NoMem
     })
 }
 
+#[tactic(auto, unfolding(crate::specs::Raw::raw_of))]
 /// The profile that all of the bytes are, with its texts by their indexes.
 pub(crate) fn raw_of(alloc: Global, bytes: &[u8]) -> Result<Raw, NoMemory>
     ensures { IfOk result (λ raw. raw ≡ raw_of bytes.now) }

@@ -8,7 +8,9 @@ use crate::reading::raw_of;
 use crate::{ProtoFault, Raw};
 use std::alloc::Global;
 
-/// The messages of a profile, `Profile` of `profile.proto`, that all of the bytes spell.
+#[tactic(auto, unfolding(crate::specs::Raw::profile_flaw))]
+/// The messages of the profile that all of the bytes spell, by pprof's `profile.proto`. Unknown
+/// fields, and known fields with a wire type that they can't have, are skipped.
 pub fn read(alloc: Global, bytes: &[u8]) -> Result<Raw, ProtoFault>
     ensures ok { IfOk result (λ raw. (profile_flaw bytes.now ≡ None) × (raw ≡ raw_of bytes.now)) }
     ensures err { IfErr result (IsFlaw (profile_flaw bytes.now)) }

@@ -1,4 +1,5 @@
-//! The wire format of Protocol Buffers: varints and fields.
+//! The wire format of Protocol Buffers (protobuf.dev, "Encoding"): varints and the fields of a
+//! message. All places count bytes from the first byte of the slice that a call is given.
 #![tactic(auto)]
 
 mod fault;

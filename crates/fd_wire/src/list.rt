@@ -9,8 +9,10 @@ use crate::{Field, WireFault};
 use fd_kinds::Items;
 use std::alloc::Global;
 
+/// The fields of a message, in order.
 pub type FieldList = Items<Field>;
 
+/// The fields that all of the bytes there spell.
 fn all_fields(alloc: Global, bytes: &[u8], start: usize, end: usize) -> Result<FieldList, WireFault>
     requires begin { start ≤ end }
     requires within { end ≤ length bytes.now }
@@ -27,7 +29,8 @@ fn all_fields(alloc: Global, bytes: &[u8], start: usize, end: usize) -> Result<F
     Ok(list)
 }
 
-/// The fields from `start` to `end`, all of the bytes there.
+/// The fields that the bytes from `start` up to `end` spell, one after another. A span is not read
+/// further.
 pub fn fields(alloc: Global, bytes: &[u8], start: usize, end: usize) -> Result<FieldList, WireFault>
     requires begin { start ≤ end }
     requires within { end ≤ length bytes.now }
@@ -42,9 +45,10 @@ pub fn fields(alloc: Global, bytes: &[u8], start: usize, end: usize) -> Result<F
     all_fields(alloc, bytes, start, end)
 }
 
+/// Whole numbers as they stand in varints.
 pub type Varints = Items<u64>;
 
-/// The varints from `start` to `end`, all of the bytes there.
+/// The varints that the bytes from `start` up to `end` spell, as in a packed repeated field.
 pub fn varints(alloc: Global, bytes: &[u8], start: usize, end: usize) -> Result<Varints, WireFault>
     requires begin { start ≤ end }
     requires within { end ≤ length bytes.now }
