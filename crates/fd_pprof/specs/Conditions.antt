@@ -37,7 +37,7 @@ abbrev pub is_too_long : List ℕ → Bool
 is_too_long t = nat_lt LIMIT (length t)
 
 -- the conditions of a profile whose texts need not be UTF-8 yet
-abbrev pub plain_conditions : List (List ℕ) → Raw → List (Bool × ProfileFault)
+unfoldable pub plain_conditions : List (List ℕ) → Raw → List (Bool × ProfileFault)
 plain_conditions ts p =
     (not (begins_empty ts), StringZero)
     ∷ (list_any (nat_le (length ts)) p.indexes, StringIndex)

@@ -11,16 +11,16 @@ use Rattle.fd_proto.specs.declared.raw.RawFunction.{RawFunction}
 abbrev pub text : List (List ℕ) → ℕ → List ℕ
 text texts i = unwrap_or (slice_get texts i) []
 
-abbrev pub hex_digit : ℕ → ℕ
+unfoldable pub hex_digit : ℕ → ℕ
 hex_digit n = if nat_lt n 10 then n + 48 else n + 87
 
 -- the last so many digits of a number, in base 16
-abbrev pub hex_digits : ℕ → ℕ → List ℕ
+unfoldable pub hex_digits : ℕ → ℕ → List ℕ
 hex_digits zero n = []
 hex_digits (suc k) n = hex_digits k (n / 16) ++ hex_digit (n % 16) ∷ []
 
 -- an address, as the frame of a line without a function
-abbrev pub hex_text : ℕ → List ℕ
+unfoldable pub hex_text : ℕ → List ℕ
 hex_text address = codes "0x" ++ hex_digits 16 address
 
 abbrev pub name_of : List (List ℕ) → Option RawFunction → List ℕ

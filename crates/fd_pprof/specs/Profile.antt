@@ -19,7 +19,7 @@ use Rattle.fd_pprof.specs.Frames.{text, stack}
 use Rattle.fd_pprof.specs.Conditions.{texts, plain_conditions, is_too_deep, is_too_long}
 
 -- the refusals of a profile whose messages are read, by rising number, each with its condition
-abbrev pub conditions : List (List ℕ) → Raw → List (Bool × ProfileFault)
+unfoldable pub conditions : List (List ℕ) → Raw → List (Bool × ProfileFault)
 conditions ts p =
     plain_conditions ts p
     ++ (list_any (λ t. not (is_utf8 t)) ts, NotUtf8)
@@ -32,6 +32,10 @@ abbrev pub first_of : List (Bool × ProfileFault) → Option ProfileFault
 first_of [] = None
 first_of (c ∷ cs) = if c.0 then Some c.1 else first_of cs
 
+-- the first refusal of a profile whose messages are read
+unfoldable pub messages_refusal : List ℕ → Raw → Option ProfileFault
+messages_refusal bytes p = first_of (conditions (texts bytes p) p)
+
 abbrev pub wire_refusal : Option ℕ → Option ProfileFault → Option ProfileFault
 wire_refusal (Some at) others = Some (Wire at)
 wire_refusal None others = others
@@ -41,10 +45,10 @@ abbrev pub is_compressed : List ℕ → Bool
 is_compressed bytes = starts_with nat_eq bytes (31 ∷ 139 ∷ [])
 
 -- the refusal with the least number whose condition holds
-abbrev pub profile_refusal : List ℕ → Option ProfileFault
+unfoldable pub profile_refusal : List ℕ → Option ProfileFault
 profile_refusal bytes =
     if is_compressed bytes then Some Compressed
-    else wire_refusal (profile_flaw bytes) (first_of (conditions (texts bytes (raw_of bytes)) (raw_of bytes)))
+    else wire_refusal (profile_flaw bytes) (messages_refusal bytes (raw_of bytes))
 
 -- a whole number in two's complement
 abbrev pub signed : ℕ → ℤ
@@ -71,5 +75,5 @@ profile_from ts p = record {
 }
 
 -- the profile that the bytes mean
-abbrev pub profile_of : List ℕ → Profile
+unfoldable pub profile_of : List ℕ → Profile
 profile_of bytes = profile_from (texts bytes (raw_of bytes)) (raw_of bytes)

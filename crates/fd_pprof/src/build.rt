@@ -45,7 +45,7 @@ fn values(alloc: Global, raw: &[u64]) -> Result<Wholes, NoMemory>
 {
     let mut all = Items::new(alloc);
     for n in raw {
-        all.push(*n as i64)?;
+        all.push(n.cast_signed())?;
     }
     Ok(all)
 }
@@ -100,8 +100,8 @@ pub(crate) fn profile(alloc: Global, tables: &Tables) -> Result<Profile, NoMemor
         sample_types: value_types(alloc, texts, raw.sample_types.as_slice())?,
         samples: samples(alloc, tables)?,
         period_type: value_type(alloc, texts, raw.period_type)?,
-        period: raw.period as i64,
-        time_nanos: raw.time as i64,
-        duration_nanos: raw.duration as i64,
+        period: raw.period.cast_signed(),
+        time_nanos: raw.time.cast_signed(),
+        duration_nanos: raw.duration.cast_signed(),
     })
 }

@@ -8,9 +8,11 @@ use fd_kinds::{Items, NoMemory, Share, Stack, Text, Texts};
 use fd_proto::{RawLocation, RawSample};
 use std::alloc::Global;
 
+#[tactic(auto, unfolding(crate::specs::Frames::hex_digit))]
 fn hex_digit(n: u64) -> u8
     requires { n < 16 }
-    ensures { result ≡ hex_digit n }
+    ensures value { result ≡ hex_digit n }
+    ensures ascii { result < 128 }
 {
     if n < 10 {
         n as u8 + b'0'
@@ -30,6 +32,7 @@ fn push_hex(text: &mut String, count: u32, n: u64) -> Result<(), NoMemory>
     Ok(())
 }
 
+#[tactic(auto, using(crate::proofs::Hex::hex_text_is))]
 /// The frame of a line without a function.
 fn address_text(alloc: Global, address: u64) -> Result<Text, NoMemory>
     ensures { IfOk result (λ text. text ≡ hex_text address) }

@@ -1,7 +1,7 @@
 ghost use Rattle.std.specs.Prelude.{◌≡◌, ◌≢◌, None, Some, IfOk, IfErr};
 ghost use Rattle.fd_proto.specs.Raw.{raw_of};
 ghost use Rattle.fd_pprof.specs.Conditions.{texts};
-ghost use Rattle.fd_pprof.specs.Profile.{conditions, first_of, is_compressed, profile_refusal, profile_of};
+ghost use Rattle.fd_pprof.specs.Profile.{is_compressed, messages_refusal, profile_refusal, profile_of};
 ghost use Rattle.fd_pprof.specs.declared.fault.ProfileFault.TheVariants.{NoMemory};
 
 use crate::build::profile;
@@ -22,12 +22,13 @@ fn is_compressed(bytes: &[u8]) -> bool
     bytes.starts_with(&[0x1f, 0x8b])
 }
 
+#[tactic(auto, using(crate::proofs::Refused::refusals))]
 /// The tables of a profile without a refusal.
 fn tables_of(alloc: Global, bytes: &[u8], raw: Raw) -> Result<Tables, ProfileFault>
-    ensures none { IfOk result (λ tables. first_of (conditions (texts bytes.now raw) raw) ≡ None) }
+    ensures none { IfOk result (λ tables. messages_refusal bytes.now raw ≡ None) }
     ensures raw { IfOk result (λ tables. tables.indexed.raw ≡ raw) }
     ensures texts { IfOk result (λ tables. tables.texts ≡ texts bytes.now raw) }
-    ensures err { IfErr result (λ e. e ≢ NoMemory → first_of (conditions (texts bytes.now raw) raw) ≡ Some e) }
+    ensures err { IfErr result (λ e. e ≢ NoMemory → messages_refusal bytes.now raw ≡ Some e) }
 {
     let indexed = Indexed::of(alloc, raw)?;
     if let Some(fault) = plain_refusal(bytes, &indexed) {
@@ -46,6 +47,7 @@ fn tables_of(alloc: Global, bytes: &[u8], raw: Raw) -> Result<Tables, ProfileFau
     Ok(tables)
 }
 
+#[tactic(auto, unfolding(crate::specs::Profile::profile_refusal, crate::specs::Profile::profile_of))]
 /// The profile that the bytes spell, by pprof's `profile.proto` in the wire format of Protocol
 /// Buffers, uncompressed.
 pub fn read_profile(alloc: Global, bytes: &[u8]) -> Result<Profile, ProfileFault>

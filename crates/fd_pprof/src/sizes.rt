@@ -12,6 +12,7 @@ use fd_kinds::{Items, NoMemory, Texts};
 use fd_proto::{RawLocation, RawSample};
 use std::alloc::Global;
 
+#[tactic(auto, using(crate::proofs::Hex::hex_text_size))]
 /// `size` with the frame of a line that names the function `id`.
 fn with_frame(size: u64, of: &Indexed, texts: &Texts, id: u64) -> u64
     ensures { (address : ℕ) → result ≡ min (size + text_size (frame texts.now of.now.raw address id)) (2 ^ 64 - 1) }
@@ -26,6 +27,7 @@ fn with_frame(size: u64, of: &Indexed, texts: &Texts, id: u64) -> u64
     size.saturating_add(4).saturating_add(more)
 }
 
+#[tactic(auto, using(crate::proofs::Hex::hex_text_size, crate::proofs::SizeSteps::size_steps))]
 /// The bytes of the frames of a location, each with four bytes more.
 fn size_of(of: &Indexed, texts: &Texts, location: &RawLocation) -> u64
     ensures { result ≡ frames_size (location_frames texts.now of.now.raw location.now) }
@@ -61,6 +63,7 @@ fn size_at(tables: &Tables, id: u64) -> u64
     }
 }
 
+#[tactic(auto, using(crate::proofs::SizeSteps::size_steps))]
 /// The bytes of the frames of a sample.
 fn stack_size(tables: &Tables, sample: &RawSample) -> u64
     ensures { result ≡ frames_size (stack tables.now.texts tables.now.indexed.raw sample.now) }
