@@ -105,11 +105,10 @@ pub profile_read : (bytes : List ℕ) (raw p : Raw) (ts : List (List ℕ)) (prof
     → messages_refusal bytes raw ≡ None → p ≡ raw → ts ≡ texts bytes raw → profile ≡ profile_from ts p → (profile_refusal bytes ≡ None) × (profile ≡ profile_of bytes)
 unfolding profile_refusal profile_of
 profile_read bytes raw p ts profile plain flaw raw_is none p_is ts_is profile_is =
-    let refused : messages_refusal bytes (raw_of bytes) ≡ None = subst (λ r. messages_refusal bytes r ≡ None) raw_is none in
-    (
+    let refused : messages_refusal bytes (raw_of bytes) ≡ None = subst (λ r. messages_refusal bytes r ≡ None) raw_is none in (
       ap (λ b. cond b (Some Compressed) (wire_refusal (profile_flaw bytes) (messages_refusal bytes (raw_of bytes)))) (sym plain)
-      ∙ ap (λ o. wire_refusal o (messages_refusal bytes (raw_of bytes))) flaw
-      ∙ refused,
+          ∙ ap (λ o. wire_refusal o (messages_refusal bytes (raw_of bytes))) flaw
+          ∙ refused,
       profile_is ∙ ap (profile_from ts) (p_is ∙ raw_is) ∙ ap (λ xs. profile_from xs (raw_of bytes)) (ts_is ∙ ap (texts bytes) raw_is),
     )
 

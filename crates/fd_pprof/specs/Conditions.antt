@@ -1,14 +1,12 @@
 -- The refusals of a profile, each with the condition under which it holds.
-use Rattle.std.specs.Prelude.{ℕ, Bool, true, false, not, ◌||◌, List, [], ◌∷◌, map, length, sum_by, Option, Some, None, nat_lt, nat_le, ◌==◌, if◌then◌else◌}
+use Rattle.std.specs.Prelude.{ℕ, Bool, false, not, ◌||◌, List, [], ◌∷◌, map, length, sum_by, nat_lt, nat_le, ◌==◌}
 use Rattle.std.specs.List.{list_any}
-use Rattle.std.specs.Str.{is_utf8}
 use Rattle.fd_kinds.specs.RowSize.{text_size}
 use Rattle.fd_proto.specs.declared.raw.Raw.{Raw}
 use Rattle.fd_proto.specs.Messages.{text_in}
 use Rattle.fd_pprof.specs.declared.fault.ProfileFault.{ProfileFault}
-use Rattle.fd_pprof.specs.declared.fault.ProfileFault.TheVariants.{StringZero, StringIndex, ValueCount, UnknownLocation, UnknownMapping, UnknownFunction, RepeatedId, NotUtf8, TooDeep, LongText}
+use Rattle.fd_pprof.specs.declared.fault.ProfileFault.TheVariants.{StringZero, StringIndex, ValueCount, UnknownLocation, UnknownMapping, UnknownFunction, RepeatedId}
 use Rattle.fd_pprof.specs.Ids.{is_unknown, has_repeats}
-use Rattle.fd_pprof.specs.Frames.{stack}
 
 abbrev pub location_ids : Raw → List ℕ
 location_ids p = map (λ l. l.id) p.locations

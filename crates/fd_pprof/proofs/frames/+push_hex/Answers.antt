@@ -1,4 +1,4 @@
-use Rattle.std.proofs.Common.{◌≡◌, ◌∙◌, [], ◌∷◌, ◌-◌, ◌/◌, ◌%◌, ◌<◌, ap, arith, append_assoc, ℕ}
+use Rattle.std.proofs.Common.{◌∙◌, [], ◌∷◌, ◌-◌, ◌/◌, ◌%◌, ◌<◌, ap, arith, append_assoc, ℕ}
 use Rattle.std.proofs.lemmas.Grind.{common_steps}
 use Rattle.std.specs.String.{string_bytes}
 use Rattle.fd_pprof.specs.Frames.{hex_digit, hex_digits}
