@@ -3,6 +3,7 @@ pub mod Digits
 pub mod History
 pub mod LabelMaps
 pub mod Labels
+pub mod LabelsOf
 pub mod Meaning
 pub mod Pairs
 pub mod Room

@@ -1,0 +1,13 @@
+-- The bytes of frames as a counter of 64 bits holds them.
+use Rattle.std.specs.Prelude.{ℕ, ◌-◌, ◌^◌, min, List, map, sum_by}
+use Rattle.fd_kinds.specs.RowSize.{text_size}
+use Rattle.fd_proto.specs.declared.raw.Raw.{Raw}
+use Rattle.fd_pprof.specs.Frames.{location_frames}
+
+-- each frame with four bytes more, and the greatest number where that is more
+abbrev pub frames_size : List (List ℕ) → ℕ
+frames_size frames = min (sum_by text_size frames) (2 ^ 64 - 1)
+
+-- the bytes of the frames of each location
+abbrev pub location_sizes : List (List ℕ) → Raw → List ℕ
+location_sizes texts p = map (λ l. frames_size (location_frames texts p l)) p.locations

@@ -1,0 +1,20 @@
+//! Profiles in pprof's format, uncompressed: what they mean, and why they are refused.
+#![tactic(auto)]
+
+mod build;
+mod checks;
+mod fault;
+mod frames;
+mod index;
+mod indexed;
+mod profile;
+mod reading;
+mod sizes;
+mod tables;
+#[cfg(test)]
+mod tests;
+mod texts;
+
+pub use fault::ProfileFault;
+pub use profile::{Profile, Sample, Samples, ValueType, ValueTypes, Wholes};
+pub use reading::read_profile;

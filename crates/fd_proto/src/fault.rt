@@ -1,0 +1,20 @@
+use fd_kinds::NoMemory;
+
+/// Why bytes can't be read as a profile's messages.
+#[derive(Clone, Copy, Debug, PartialEq, Eq)]
+pub enum ProtoFault {
+    /// The wire format fails at the place `at`, counted in bytes from the first.
+    Wire { at: usize },
+    NoMemory,
+}
+
+impl From<NoMemory> for ProtoFault {
+    ghost use Rattle.std.specs.Prelude.{◌≡◌};
+    ghost use Rattle.fd_proto.specs.declared.fault.ProtoFault.TheVariants.{NoMemory};
+
+    ghost from_gives = { λ _ e. e ≡ NoMemory };
+
+    fn from(_error: NoMemory) -> ProtoFault {
+        ProtoFault::NoMemory
+    }
+}
