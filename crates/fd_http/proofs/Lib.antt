@@ -1,0 +1,7 @@
+pub mod Digits
+pub mod HeaderSteps
+pub mod HeadLemmas
+pub mod RestLemmas
+pub mod ReplyLemmas
+pub mod Unique
+pub mod FrontSteps

@@ -1,0 +1,8 @@
+use Rattle.fd_http.proofs.Unique.{holds_unique, splits_unique}
+use Rattle.fd_http.proofs.laws.split_laws.Goals as goal
+
+pub returns-clause-next : goal.returns-clause-next
+returns-clause-next c = holds_unique
+
+pub returns-clause-split : goal.returns-clause-split
+returns-clause-split c bytes rs ss e f = splits_unique rs ss 100000 bytes e f

@@ -1,0 +1,10 @@
+ghost use Rattle.std.specs.Prelude.{◌≡◌, List, ℕ};
+ghost use Rattle.fd_http.specs.declared.request.Request.{Request};
+ghost use Rattle.fd_http.specs.Rests.{Next, Holds, End, Splits};
+
+/// What the bytes of an input hold next, and how they split into requests and an end, are functions
+/// of these bytes.
+pub fn split_laws()
+    ensures next { (rest : List ℕ) (a b : Next) → Holds rest a → Holds rest b → a ≡ b }
+    ensures split { (bytes : List ℕ) (rs ss : List Request) (e f : End) → Splits bytes rs e → Splits bytes ss f → (rs ≡ ss) × (e ≡ f) }
+{}
