@@ -5,3 +5,4 @@ pub mod RestLemmas
 pub mod ReplyLemmas
 pub mod Unique
 pub mod FrontSteps
+pub mod SearchLemmas

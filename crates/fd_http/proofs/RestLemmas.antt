@@ -1,7 +1,7 @@
 -- From what stands in the inbox to what the rest holds.
 use Rattle.std.proofs.Common.{ℕ, ◌≡◌, ◌≤◌, ◌<◌, List, [], ◌++◌, length, take, drop, arith, ap, sym, subst, ◌∙◌, Option, None, Some, Result, Ok, Err, Bool, true, false, ◌⊎◌, inl, inr, length-append, length-take, append_assoc, if◌then◌else◌, ◌||◌, bytes_eq, codes, nat_lt, IfSome}
-use Rattle.std.specs.Io.KnownBytes.{Consumes}
-use Rattle.std.proofs.lemmas.List.{take-append-drop, take_at, drop_at, take-append-le}
+use Rattle.std.specs.Io.KnownBytes.{Consumes, IsAtEnd}
+use Rattle.std.proofs.lemmas.List.{take-append-drop, take_at, drop_at, take-append-le, take_all, append-nil}
 use Rattle.httparse.specs.Grammar.{RequestHead}
 use Rattle.fd_http.specs.declared.headers.Length.{Length}
 use Rattle.fd_http.specs.declared.headers.Length.TheVariants.{Absent, Wrong, Of}
@@ -11,7 +11,7 @@ use Rattle.fd_http.specs.declared.request.RequestFault.{RequestFault}
 use Rattle.fd_http.specs.declared.request.RequestFault.TheVariants.{BadHead, NoLength, TooLarge, Cut, ReadFault, NoMemory}
 use Rattle.fd_http.specs.Front.{HasNoFront}
 use Rattle.fd_http.specs.Heads.{IsHead, IsNoHead, head_of, body_len, sized, ReadsHead}
-use Rattle.fd_http.specs.Rests.{Fronted, Headed, Begins, LongFront, HeadRefused, Refuses, request_of}
+use Rattle.fd_http.specs.Rests.{Fronted, Headed, Begins, CutInFront, LongFront, HeadRefused, Refuses, request_of}
 use Rattle.fd_http.specs.Told.{IfTold, told_then}
 use Rattle.fd_http.specs.Arrives.{Arrives}
 use Rattle.fd_http.specs.Intake.{FrontAt, ReadsBody, Fills}
@@ -31,6 +31,24 @@ long_front b y many none = record {
   many = omega (arith, length-append b y);
   none = subst HasNoFront (sym (take-append-le 16384 b y many)) none;
 }
+
+-- the input ends inside a front
+pub cut_front : (old mid new : Option (List ℕ)) (a inbox bs : List ℕ) → IfTold old mid a inbox (λ rest after. rest ≡ after) → Consumes mid new bs → IsAtEnd new
+    → bs ≡ [] → 0 < length inbox → length inbox < 16384 → HasNoFront (take 16384 inbox) → IfTold old new a inbox (λ rest after. CutInFront rest)
+cut_front None mid new a inbox bs same took end none some few unfronted = tt
+cut_front (Some x) None new a inbox bs same took end none some few unfronted = absurd same
+cut_front (Some x) (Some y) None a inbox bs same took end none some few unfronted = took
+cut_front (Some x) (Some y) (Some z) a inbox bs same took end none some few unfronted =
+    let all : a ++ x ≡ inbox = same ∙ ap (λ (xs : List ℕ). inbox ++ xs) (took ∙ ap (λ (xs : List ℕ). xs ++ z) none ∙ end) ∙ append-nil inbox in
+    subst CutInFront (sym all) (record { some = some; few = few; none = subst HasNoFront (take_all 16384 inbox (omega (arith, few))) unfronted })
+
+-- what was read joins the inbox
+pub read_more : (old mid new : Option (List ℕ)) (a inbox bs : List ℕ) → IfTold old mid a inbox (λ rest after. rest ≡ after) → Consumes mid new bs
+    → IfTold old new a (inbox ++ bs) (λ rest after. rest ≡ after)
+read_more None mid new a inbox bs same took = tt
+read_more (Some x) None new a inbox bs same took = absurd same
+read_more (Some x) (Some y) None a inbox bs same took = took
+read_more (Some x) (Some y) (Some z) a inbox bs same took = same ∙ ap (λ (xs : List ℕ). inbox ++ xs) took ∙ sym (append_assoc inbox bs z)
 
 pub fronted_in : (b y : List ℕ) (n : ℕ) → FrontAt b n → Fronted (b ++ y) (take n b) (drop n b ++ y)
 fronted_in b y n at = record {

@@ -22,7 +22,8 @@ impl FrontSearch {
     ghost use Rattle.fd_http.specs.Search.{EndsAs, HasSearched};
 
     pub fn new() -> FrontSearch
-        ensures { (bytes : List ℕ) → HasSearched bytes result }
+        ensures place { result.place ≡ 0 }
+        ensures searched { (bytes : List ℕ) → HasSearched bytes result }
     {
         FrontSearch {
             place: 0,

@@ -1,5 +1,7 @@
-ghost use Rattle.std.specs.Prelude.{◌≡◌, ◌≤◌, length, take, drop, IfOk, IfSome, IfNone, IsOkAnd};
+ghost use Rattle.std.specs.Prelude.{◌≡◌, ◌≤◌, ◌<◌, length, take, drop, IfOk, IfSome, IfNone, IsOkAnd};
 ghost use Rattle.fd_http.specs.Arrives.{Arrives, ReadCause};
+ghost use Rattle.fd_http.specs.Front.{HasNoFront};
+ghost use Rattle.fd_http.specs.Search.{HasSearched};
 ghost use Rattle.fd_http.specs.Intake.{Fills, FrontAt, ReadsBody};
 
 use crate::front::FrontSearch;
@@ -13,6 +15,17 @@ const LONGEST_FRONT: usize = 16_384;
 
 const PIECE: usize = 4_096;
 
+/// Looks for a front of at most so many bytes, and goes on where the search stands.
+fn find_front(search: &mut FrontSearch, bytes: &[u8]) -> Option<usize>
+    requires searched { HasSearched bytes.now search.old }
+    requires short { search.old.place ≤ 16384 }
+    ensures front { IfSome result (FrontAt bytes.now) }
+    ensures none { IfNone result (HasNoFront (take 16384 bytes.now)) }
+    ensures searched { IfNone result (length bytes.now < 16384 → HasSearched bytes.now search.new) }
+{
+    search.front_len(&bytes[..bytes.len().min(LONGEST_FRONT)])
+}
+
 /// Reads until a front stands in the inbox, and answers its length. None is the end of the input
 /// before a first byte.
 fn fill_front<S: Source>(source: &mut S, inbox: &mut Inbox) -> Result<Option<usize>, RequestFault>
@@ -25,7 +38,7 @@ fn fill_front<S: Source>(source: &mut S, inbox: &mut Inbox) -> Result<Option<usi
     loop {
         let bytes = inbox.as_slice();
         let len = bytes.len();
-        if let Some(size) = search.front_len(&bytes[..len.min(LONGEST_FRONT)]) {
+        if let Some(size) = find_front(&mut search, bytes) {
             return Ok(Some(size));
         }
         if len >= LONGEST_FRONT {
