@@ -12,6 +12,7 @@ use Rattle.fd_http.specs.declared.request.RequestFault.TheVariants.{BadHead, NoL
 use Rattle.fd_http.specs.Front.{IsFront, HasNoFront, is_blank_ended}
 use Rattle.fd_http.specs.Heads.{IsHead, head_of, body_len}
 use Rattle.fd_http.specs.Rests.{Next, nothing, one, refused, Holds, Fronted, Headed, Begins, NoHead, request_of, End, ended, closed, limit, refused_as, SplitsWithin}
+use Rattle.fd_http.specs.Leads.{Leads}
 
 -- a front is a prefix, so its length gives it
 front_is : (rest front more : List ℕ) → rest ≡ front ++ more → take (length front) rest ≡ front
@@ -157,6 +158,9 @@ next_is rest request other after more x y =
     let same = holds_unique rest (one request after) (one other more) x y in
     (cc, cc)
 
+unlike : (a b : Bool) → IsTrue a → IsFalse b → a ≡ b → ⊥
+unlike a b is_true is_false same = let t : a ≡ true = is_true in let n : b ≡ false = is_false in cc
+
 -- A list of bytes splits in one way.
 pub splits_unique : (rs ss : List Request) (room : ℕ) (bytes : List ℕ) (e f : End) → SplitsWithin rs room bytes e → SplitsWithin ss room bytes f → (rs ≡ ss) × (e ≡ f)
 splits_unique [] [] room bytes ended ended x y = (refl, refl)
@@ -196,6 +200,25 @@ splits_unique (r ∷ rs) (s ∷ ss) room bytes e f x y =
             (cc, rest.1)
       ]
     ]
-  where
-    unlike : (a b : Bool) → IsTrue a → IsFalse b → a ≡ b → ⊥
-    unlike a b is_true is_false same = let t : a ≡ true = is_true in let n : b ≡ false = is_false in cc
+
+-- requests that the bytes begin with are the first of their split
+pub leads_prefix : (rs all : List Request) (room : ℕ) (bytes : List ℕ) (left : ℕ) (after : List ℕ) (end : End) → Leads rs room bytes left after → SplitsWithin all room bytes end
+    → (more : List Request) × (all ≡ rs ++ more) × SplitsWithin more left after end
+leads_prefix [] all room bytes left after end leads splits =
+    let P : ℕ → Type 0 = λ n. SplitsWithin all n after end in
+    let Q : List ℕ → Type 0 = λ xs. SplitsWithin all room xs end in
+    (all, refl, subst P (sym leads.0) (subst Q leads.1 splits))
+leads_prefix (r ∷ rs) [] room bytes left after ended leads splits = let no = holds_unique bytes (one r leads.1) nothing leads.2 splits.1 in cc
+leads_prefix (r ∷ rs) [] room bytes left after closed leads splits = absurd splits
+leads_prefix (r ∷ rs) [] room bytes left after limit leads splits = absurd (omega (arith, leads.0, splits))
+leads_prefix (r ∷ rs) [] room bytes left after (refused_as fault) leads splits = let no = holds_unique bytes (one r leads.1) (refused fault) leads.2 splits.1 in cc
+leads_prefix (r ∷ rs) (s ∷ ss) room bytes left after end leads splits =
+    let same = next_is bytes r s leads.1 splits.1 leads.2 splits.2 in
+    let closes : r.close ≡ s.close = ap (λ (q : Request). q.close) same.0 in
+    elim splits.3 as (λ _. (more : List Request) × (s ∷ ss ≡ (r ∷ rs) ++ more) × SplitsWithin more left after end) [
+      | inl last ↦ absurd (unlike s.close r.close last.0 leads.3 (sym closes))
+      | inr next ↦
+          let P : List ℕ → Type 0 = λ mid. SplitsWithin ss (room - 1) mid end in
+          let rest = leads_prefix rs ss (room - 1) leads.1 left after end leads.4 (subst P (sym same.1) next.1) in
+          (rest.0, (let tail : ss ≡ rs ++ rest.0 = rest.1 in let head : r ≡ s = same.0 in cc), rest.2)
+    ]

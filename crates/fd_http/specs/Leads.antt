@@ -1,6 +1,6 @@
 -- The requests that were read so far: what a loop over them keeps, and how it ends.
 use Rattle.std.specs.Prelude.{ℕ, ◌≡◌, ◌<◌, ◌-◌, List, [], ◌∷◌, ◌++◌, Option, Ok, Err, IsTrue, IsFalse}
-use Rattle.std.proofs.Common.{subst, sym, refl, inl, inr, append_assoc}
+use Rattle.std.proofs.Common.{subst, sym, refl, ap, inl, inr}
 use Rattle.std.proofs.lemmas.List.{append-nil}
 use Rattle.fd_http.specs.declared.request.Request.{Request}
 use Rattle.fd_http.specs.declared.request.Arrived.TheVariants.{One, End as NoMore}
@@ -10,33 +10,49 @@ use Rattle.fd_http.specs.Rests.{nothing, refused, Holds, Begins, Refuses, End, e
 use Rattle.fd_http.specs.Told.{IfTold, told_then, told_trans}
 use Rattle.fd_http.specs.Arrives.{Arrives}
 
--- The bytes begin with these requests, none of which asks to close. Of the room for so many, this
--- much is left, and this rest follows: each split of it continues theirs.
+-- The bytes begin with these requests, none of which asks to close, and this rest follows. Of the
+-- room for so many requests this much is left.
 abbrev pub Leads : List Request → ℕ → List ℕ → ℕ → List ℕ → Type 0
-Leads requests room bytes left after = (more : List Request) (end : End) → SplitsWithin more left after end → SplitsWithin (requests ++ more) room bytes end
+Leads [] room bytes left after = (left ≡ room) × (bytes ≡ after)
+Leads (request ∷ requests) room bytes left after =
+    (0 < room) × (mid : List ℕ) × Begins bytes request mid × IsFalse request.close × Leads requests (room - 1) mid left after
 
 -- no request yet
 pub leads_none : (room : ℕ) (bytes : List ℕ) → Leads [] room bytes room bytes
-leads_none room bytes more end splits = splits
+leads_none room bytes = (refl, refl)
 
 -- one more request, which does not ask to close
 pub leads_push : (requests : List Request) (room : ℕ) (bytes : List ℕ) (left : ℕ) (rest after : List ℕ) (request : Request) → Leads requests room bytes left rest
     → 0 < left → Begins rest request after → IsFalse request.close → Leads (requests ++ request ∷ []) room bytes (left - 1) after
-leads_push requests room bytes left rest after request leads some begins going more end splits =
-    let P : List Request → Type 0 = λ all. SplitsWithin all room bytes end in
-    subst P (sym (append_assoc requests (request ∷ []) more)) (leads (request ∷ more) end (some, after, begins, inr (going, splits)))
+leads_push [] room bytes left rest after request leads some begins going =
+    let P : ℕ → Type 0 = λ n. 0 < n in
+    let Q : List ℕ → Type 0 = λ xs. Begins xs request after in
+    (subst P leads.0 some, after, subst Q (sym leads.1) begins, going, (ap (λ (n : ℕ). n - 1) leads.0, refl))
+leads_push (first ∷ requests) room bytes left rest after request leads some begins going =
+    (leads.0, leads.1, leads.2, leads.3, leads_push requests (room - 1) leads.1 left rest after request leads.4 some begins going)
+
+-- the split of what follows is the rest of the split
+pub leads_then : (requests more : List Request) (room : ℕ) (bytes : List ℕ) (left : ℕ) (after : List ℕ) (end : End) → Leads requests room bytes left after
+    → SplitsWithin more left after end → SplitsWithin (requests ++ more) room bytes end
+leads_then [] more room bytes left after end leads splits =
+    let P : ℕ → Type 0 = λ n. SplitsWithin more n after end in
+    let Q : List ℕ → Type 0 = λ xs. SplitsWithin more room xs end in
+    subst Q (sym leads.1) (subst P leads.0 splits)
+leads_then (first ∷ requests) more room bytes left after end leads splits =
+    (leads.0, leads.1, leads.2, inr (leads.3, leads_then requests more (room - 1) leads.1 left after end leads.4 splits))
 
 -- one more request, which asks to close
 pub leads_close : (requests : List Request) (room : ℕ) (bytes : List ℕ) (left : ℕ) (rest after : List ℕ) (request : Request) → Leads requests room bytes left rest
     → 0 < left → Begins rest request after → IsTrue request.close → SplitsWithin (requests ++ request ∷ []) room bytes closed
-leads_close requests room bytes left rest after request leads some begins close = leads (request ∷ []) closed (some, after, begins, inl (close, refl, refl))
+leads_close requests room bytes left rest after request leads some begins close =
+    leads_then requests (request ∷ []) room bytes left rest closed leads (some, after, begins, inl (close, refl, refl))
 
 -- no further request
 pub leads_end : (requests : List Request) (room : ℕ) (bytes : List ℕ) (left : ℕ) (after : List ℕ) (end : End) → Leads requests room bytes left after
     → SplitsWithin [] left after end → SplitsWithin requests room bytes end
 leads_end requests room bytes left after end leads splits =
     let P : List Request → Type 0 = λ all. SplitsWithin all room bytes end in
-    subst P (append-nil requests) (leads [] end splits)
+    subst P (append-nil requests) (leads_then requests [] room bytes left after end leads splits)
 
 -- The same of a session's requests, over an inbox and a source: from the rest before to the rest
 -- after, with so many requests left of 100,000.
