@@ -1,4 +1,4 @@
-ghost use Rattle.std.specs.Prelude.{◌≡◌, ◌≤◌, ◌<◌, length, take, drop, IfOk, IfSome, IfNone, IsOkAnd};
+ghost use Rattle.std.specs.Prelude.{◌≡◌, ◌≤◌, ◌<◌, max, length, take, drop, IfOk, IfSome, IfNone, IsOkAnd};
 ghost use Rattle.fd_http.specs.Arrives.{Arrives, ReadCause};
 ghost use Rattle.fd_http.specs.Front.{HasNoFront};
 ghost use Rattle.fd_http.specs.Search.{HasSearched};
@@ -31,6 +31,7 @@ fn find_front(search: &mut FrontSearch, bytes: &[u8]) -> Option<usize>
 fn fill_front<S: Source>(source: &mut S, inbox: &mut Inbox) -> Result<Option<usize>, RequestFault>
     ensures fills { Fills (S.left source.old) (S.left source.new) inbox.old inbox.new result }
     ensures front { IfOk result (λ found. IfSome found (FrontAt inbox.new)) }
+    ensures ahead { length inbox.new ≤ max (length inbox.old) 20479 }
     ensures cause { ReadCause (S.faults source.old) (S.faults source.new) result }
 {
     let mut search = FrontSearch::new();
@@ -65,6 +66,7 @@ fn read_body<S: Source>(
     size: usize,
 ) -> Result<Bytes, RequestFault>
     ensures reads { ReadsBody (S.left source.old) (S.left source.new) inbox.old inbox.new size result }
+    ensures ahead { length inbox.new ≤ length inbox.old }
     ensures cause { ReadCause (S.faults source.old) (S.faults source.new) result }
 {
     let mut body = Vec::with_capacity(alloc, size)?;
@@ -83,14 +85,17 @@ fn read_body<S: Source>(
     Ok(Bytes::from_vec(body))
 }
 
-/// Reads the next request: first what the inbox holds, then the source, a piece at a time and no
-/// further than the piece in which the request ends. After a refusal the inbox is not used again.
+/// Reads the next request: first what the inbox holds, then the source, in pieces of at most 4,096
+/// bytes and no further than the piece in which the request ends, so that the inbox stays small.
+/// A head that is refused is refused before its body is read. After a refusal the inbox is not used
+/// again.
 pub fn next_request<S: Source>(
     alloc: Global,
     source: &mut S,
     inbox: &mut Inbox,
 ) -> Result<Arrived, RequestFault>
     ensures arrives { Arrives (S.left source.old) (S.left source.new) inbox.old inbox.new result }
+    ensures ahead { length inbox.new ≤ max (length inbox.old) 20479 }
     ensures cause { ReadCause (S.faults source.old) (S.faults source.new) result }
 {
     let Some(size) = fill_front(source, inbox)? else {

@@ -1,4 +1,4 @@
-use Rattle.std.proofs.Common.{ℕ, ◌≡◌, ◌≤◌, ◌<◌, List, [], ◌++◌, length, take, arith, sym, subst, ap, ◌∙◌}
+use Rattle.std.proofs.Common.{ℕ, ◌≡◌, ◌≤◌, ◌<◌, List, [], ◌++◌, length, take, arith, sym, subst, ap, ◌∙◌, length-append, length-take}
 use Rattle.fd_http.specs.Front.{HasNoFront}
 use Rattle.fd_http.specs.Search.{HasSearched}
 use Rattle.fd_http.specs.Rests.{LongFront}
@@ -39,5 +39,6 @@ loop-size-preserved g c =
       told = subst T (sym grown) (read_more (g.S.Source.left c.args.source.now) (g.S.Source.left c.loop-size.source) (g.S.Source.left c.read.new.self) c.args.inbox.now c.loop-size.inbox (take c.in-Got.count c.read.new.piece) c.loop-size.invariant.told c.in-Got.ensures.bytes.0);
       faults = faults ∙ c.loop-size.invariant.faults;
       searched = subst S (sym grown) (searched_append c.loop-size.inbox (take c.in-Got.count c.read.new.piece) c.find_front.new.search searched);
+      ahead = omega (arith, few, ap length grown, length-append c.loop-size.inbox (take c.in-Got.count c.read.new.piece), length-take c.in-Got.count c.read.new.piece, c.in-Got.ensures.bound);
       short = omega (arith, searched.within, few);
     }

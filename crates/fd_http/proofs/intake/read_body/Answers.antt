@@ -12,6 +12,7 @@ loop-room-init g c =
       told = body_start _ c.args.inbox.now c.skip.new.self c.extend_from_slice.new.self.items c.min-here.result begun (grind (arith, common_steps));
       within = grind (arith, common_steps);
       used = λ short. grind (arith, common_steps);
+      ahead = grind (arith, common_steps);
       faults = grind (arith, common_steps);
     }
 
@@ -25,5 +26,6 @@ loop-room-preserved g c =
       told = subst P (sym grown) (body_more (g.S.Source.left c.args.source.now) (g.S.Source.left c.loop-room.source) (g.S.Source.left c.read.new.self) c.args.inbox.now c.skip.new.self c.loop-room.body.items (take c.in-Got.count c.read.new.piece) (c.loop-room.invariant.used short) c.loop-room.invariant.told took);
       within = grind (arith, common_steps);
       used = λ _. c.loop-room.invariant.used short;
+      ahead = c.loop-room.invariant.ahead;
       faults = grind (arith, common_steps);
     }

@@ -7,6 +7,7 @@ invariant-loop-room g l = record {
   told : IfTold (g.S.Source.left l.fn.source) (g.S.Source.left l.source) l.fn.inbox l.inbox (λ rest after. rest ≡ l.body.items ++ after);
   within : length l.body.items ≤ l.fn.size;
   used : length l.body.items < l.fn.size → l.inbox ≡ [];
+  ahead : length l.inbox ≤ length l.fn.inbox;
   faults : g.S.Source.faults l.source ≡ g.S.Source.faults l.fn.source;
 }
 
