@@ -59,9 +59,9 @@ pub blank_push : (seen : List ℕ) (b : ℕ)
     → ends_blank (seen ++ b ∷ []) ≡ (nat_eq b line_feed && (ends_with nat_eq seen (line_feed ∷ []) || ends_with nat_eq seen (line_feed ∷ carriage_return ∷ [])))
 blank_push seen b =
     let two : ends_with nat_eq (seen ++ b ∷ []) (line_feed ∷ line_feed ∷ []) ≡ (ends_with nat_eq seen (line_feed ∷ []) && nat_eq b line_feed) =
-        ends_with_push seen (line_feed ∷ []) b line_feed ∙ ap (λ (t : Bool). ends_with nat_eq seen (line_feed ∷ []) && t) (nat_eq_sym line_feed b) in
+    ends_with_push seen (line_feed ∷ []) b line_feed ∙ ap (λ (t : Bool). ends_with nat_eq seen (line_feed ∷ []) && t) (nat_eq_sym line_feed b) in
     let three : ends_with nat_eq (seen ++ b ∷ []) (line_feed ∷ carriage_return ∷ line_feed ∷ []) ≡ (ends_with nat_eq seen (line_feed ∷ carriage_return ∷ []) && nat_eq b line_feed) =
-        ends_with_push seen (line_feed ∷ carriage_return ∷ []) b line_feed ∙ ap (λ (t : Bool). ends_with nat_eq seen (line_feed ∷ carriage_return ∷ []) && t) (nat_eq_sym line_feed b) in
+    ends_with_push seen (line_feed ∷ carriage_return ∷ []) b line_feed ∙ ap (λ (t : Bool). ends_with nat_eq seen (line_feed ∷ carriage_return ∷ []) && t) (nat_eq_sym line_feed b) in
     ap (λ (t : Bool). t || ends_with nat_eq (seen ++ b ∷ []) (line_feed ∷ carriage_return ∷ line_feed ∷ [])) two
     ∙ ap (λ (t : Bool). (ends_with nat_eq seen (line_feed ∷ []) && nat_eq b line_feed) || t) three
     ∙ shared (ends_with nat_eq seen (line_feed ∷ [])) (ends_with nat_eq seen (line_feed ∷ carriage_return ∷ [])) (nat_eq b line_feed)

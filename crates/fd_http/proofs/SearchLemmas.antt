@@ -15,7 +15,7 @@ pub searched_more : (bytes : List ℕ) (search next : FrontSearch) → HasSearch
     → HasSearched bytes next
 searched_more bytes search next so_far short place ends none =
     let one : take next.place bytes ≡ take search.place bytes ++ get_or bytes search.place 0 ∷ [] =
-        ap (λ (k : ℕ). take k bytes) place ∙ take_more bytes search.place 0 short in
+    ap (λ (k : ℕ). take k bytes) place ∙ take_more bytes search.place 0 short in
     let P : List ℕ → Type 0 = λ seen. EndsAs seen next in
     let Q : List ℕ → Type 0 = λ seen. IsFalse (is_blank_ended seen) in
     record {
@@ -38,8 +38,8 @@ searched_append bytes more search so_far =
       within = omega (arith, so_far.within, length-append bytes more);
       ends = subst P (sym (take-append-le search.place bytes more so_far.within)) so_far.ends;
       none = λ k below.
-        let Q : List ℕ → Type 0 = λ seen. IsFalse (is_blank_ended seen) in
-        subst Q (sym (take-append-le k bytes more (omega (arith, so_far.within)))) (so_far.none k below);
+          let Q : List ℕ → Type 0 = λ seen. IsFalse (is_blank_ended seen) in
+          subst Q (sym (take-append-le k bytes more (omega (arith, so_far.within)))) (so_far.none k below);
     }
 
 -- a front of those bytes alone
@@ -50,6 +50,6 @@ searched_take bytes n search so_far within =
       within = omega (arith, so_far.within, length-take n bytes);
       ends = subst P (sym (take-take search.place n bytes within)) so_far.ends;
       none = λ k below.
-        let Q : List ℕ → Type 0 = λ seen. IsFalse (is_blank_ended seen) in
-        subst Q (sym (take-take k n bytes (omega (arith, within)))) (so_far.none k below);
+          let Q : List ℕ → Type 0 = λ seen. IsFalse (is_blank_ended seen) in
+          subst Q (sym (take-take k n bytes (omega (arith, within)))) (so_far.none k below);
     }

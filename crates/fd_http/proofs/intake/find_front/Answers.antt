@@ -28,5 +28,5 @@ pub returns-clause-searched : goal.returns-clause-searched
 returns-clause-searched c =
     none_then c.front_len.result _ _ c.front_len.ensures.searched
     (λ searched few.
-        let P : List ℕ → Type 0 = λ seen. HasSearched seen c.front_len.new.self in
-        subst P (take_all c.min.result c.args.bytes.now (omega arith)) searched)
+    let P : List ℕ → Type 0 = λ seen. HasSearched seen c.front_len.new.self in
+    subst P (take_all c.min.result c.args.bytes.now (omega arith)) searched)
