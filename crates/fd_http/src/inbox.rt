@@ -1,4 +1,4 @@
-ghost use Rattle.std.specs.Prelude.{◌≡◌, [], ◌++◌, ◌≤◌, length, drop, IsOk, IfOk, OnOk, OnErr};
+ghost use Rattle.std.specs.Prelude.{◌≡◌, [], ◌++◌, ◌+◌, ◌≤◌, length, drop, IsOk, IfOk, OnOk, OnErr};
 
 use fd_kinds::NoMemory;
 use std::alloc::Global;
@@ -19,7 +19,19 @@ impl Model for Inbox {
 
     ghost view = { λ i. drop i.start i.bytes.items };
 
-    ghost invariant = { λ i. i.start ≤ length i.bytes.items };
+    ghost invariant = { λ i. (i.start ≤ length i.bytes.items) × (length i.bytes.items ≤ 20479) };
+}
+
+/// Moves all but the first bytes to the front.
+fn drop_front(bytes: &mut Vec<u8>, count: usize)
+    requires { count ≤ length bytes.old.items }
+    ensures { bytes.new.items ≡ drop count bytes.old.items }
+{
+    if count > 0 {
+        let rest = bytes.len() - count;
+        bytes.rotate_left(count);
+        bytes.truncate(rest);
+    }
 }
 
 impl Inbox {
@@ -40,25 +52,15 @@ impl Inbox {
         &self.bytes.as_slice()[self.start..]
     }
 
-    /// Lets go of the bytes that are used.
-    fn tidy(&mut self)
-        ensures { self.new ≡ self.old }
-    {
-        if self.start > 0 {
-            let len = self.bytes.len() - self.start;
-            self.bytes.rotate_left(self.start);
-            self.bytes.truncate(len);
-            self.start = 0;
-        }
-    }
-
     /// Adds bytes that were read. What is used goes first, so that each byte moves at most once
-    /// before it is used.
+    /// before it is used, and the inbox never holds more than 20,479 bytes.
     pub(crate) fn extend(&mut self, piece: &[u8]) -> Result<(), NoMemory>
+        requires { length self.old + length piece.now ≤ 20479 }
         ensures ok { OnOk result (self.new ≡ self.old ++ piece.now) }
         ensures err { OnErr result (self.new ≡ self.old) }
     {
-        self.tidy();
+        drop_front(&mut self.bytes, self.start);
+        self.start = 0;
         self.bytes.extend_from_slice(piece)?;
         Ok(())
     }
