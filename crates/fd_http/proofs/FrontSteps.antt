@@ -1,11 +1,11 @@
 -- One more byte at the end.
-use Rattle.std.proofs.Common.{ℕ, ◌≡◌, ◌≤◌, ◌+◌, ◌-◌, List, [], ◌∷◌, ◌++◌, length, take, drop, get_or, Bool, true, false, ◌&&◌, ◌||◌, not, nat_eq, arith, refl, ap, sym, ◌∙◌, length-append}
+use Rattle.std.proofs.Common.{ℕ, ◌≡◌, ◌-◌, List, [], ◌∷◌, ◌++◌, length, drop, Bool, true, false, ◌&&◌, ◌||◌, nat_eq, arith, refl, ap, ◌∙◌, length-append}
 use Rattle.std.specs.Cmp.Lexicographic.{pointwise}
 use Rattle.std.specs.List.{list_any, ends_with}
 use Rattle.std.proofs.lemmas.List.{drop-append-le, drop_all}
 use Rattle.std.proofs.lemmas.Bool.Decides.{nat_tests}
 use Rattle.httparse.specs.Ascii.{line_feed, carriage_return}
-use Rattle.fd_http.specs.Front.{is_text_byte, ends_blank, is_blank_ended}
+use Rattle.fd_http.specs.Front.{is_text_byte, ends_blank}
 
 none_is_some : (xs : List ℕ) (x : ℕ) → pointwise nat_eq [] (xs ++ x ∷ []) ≡ false
 none_is_some [] x = refl

@@ -1,5 +1,5 @@
 -- A rest holds one thing, so that `Splits` is a function of the bytes.
-use Rattle.std.proofs.Common.{ℕ, ◌≡◌, ◌≤◌, ◌<◌, ◌-◌, List, [], ◌∷◌, ◌++◌, length, take, drop, arith, ap, sym, subst, ◌∙◌, refl, Result, Ok, Err, Bool, true, false, inl, inr, length-append, length-take, append_assoc, if◌then◌else◌, nat_lt, nat_le}
+use Rattle.std.proofs.Common.{ℕ, ◌≡◌, ◌≤◌, ◌<◌, ◌-◌, List, [], ◌∷◌, ◌++◌, length, take, drop, arith, ap, sym, subst, ◌∙◌, refl, Result, Ok, Err, Bool, true, false, inl, inr, length-append, length-take, if◌then◌else◌, nat_lt, nat_le}
 use Rattle.std.specs.Bool.{IsTrue, IsFalse}
 use Rattle.std.proofs.lemmas.List.{take_at, drop_at, take-append-le, take-take, take_all}
 use Rattle.std.proofs.lemmas.Bool.{cases_lt, le-leb}

@@ -1,11 +1,10 @@
 -- The requests that were read so far: what a loop over them keeps, and how it ends.
-use Rattle.std.specs.Prelude.{ℕ, ◌≡◌, ◌<◌, ◌-◌, List, [], ◌∷◌, ◌++◌, Option, Ok, Err, IsTrue, IsFalse}
+use Rattle.std.specs.Prelude.{ℕ, ◌≡◌, ◌<◌, ◌-◌, List, [], ◌∷◌, ◌++◌, Option, Ok, IsTrue, IsFalse}
 use Rattle.std.proofs.Common.{subst, sym, refl, ap, inl, inr}
 use Rattle.std.proofs.lemmas.List.{append-nil}
 use Rattle.fd_http.specs.declared.request.Request.{Request}
 use Rattle.fd_http.specs.declared.request.Arrived.TheVariants.{One, End as NoMore}
 use Rattle.fd_http.specs.declared.request.RequestFault.{RequestFault}
-use Rattle.fd_http.specs.declared.request.RequestFault.TheVariants.{BadHead, NoLength, TooLarge, Cut}
 use Rattle.fd_http.specs.Rests.{nothing, refused, Holds, Begins, Refuses, End, ended, closed, limit, refused_as, SplitsWithin, Splits}
 use Rattle.fd_http.specs.Told.{IfTold, told_then, told_trans}
 use Rattle.fd_http.specs.Arrives.{Arrives}

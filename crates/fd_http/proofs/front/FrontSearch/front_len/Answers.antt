@@ -1,4 +1,4 @@
-use Rattle.std.proofs.Common.{ℕ, ◌≡◌, ◌+◌, ◌-◌, ◌<◌, List, [], ◌∷◌, ◌++◌, length, take, drop, get_or, false, arith, ap, sym, subst, ◌∙◌, length-drop}
+use Rattle.std.proofs.Common.{ℕ, ◌≡◌, ◌-◌, List, [], ◌∷◌, ◌++◌, length, take, drop, get_or, false, arith, ap, sym, subst, ◌∙◌, length-drop}
 use Rattle.std.proofs.lemmas.List.{get_or-drop, take_all}
 use Rattle.fd_http.specs.Front.{is_blank_ended}
 use Rattle.fd_http.specs.Search.{EndsAs}

@@ -1,4 +1,4 @@
-use Rattle.std.proofs.Common.{ℕ, ◌≡◌, ◌≤◌, ◌+◌}
+use Rattle.std.proofs.Common.{◌≡◌, ◌+◌}
 use Rattle.fd_http.specs.Search.{HasSearched}
 use Rattle.fd_http.proofs.front.FrontSearch.front_len.Given as goal
 

@@ -1,7 +1,6 @@
-use Rattle.std.proofs.Common.{◌∷◌, []}
 use Rattle.std.proofs.Common.{arith}
 use Rattle.std.proofs.lemmas.Grind.{common_steps}
-use Rattle.fd_http.proofs.FrontSteps.{text_push, feed_push, return_push, blank_push}
+use Rattle.fd_http.proofs.FrontSteps.{text_push, blank_push}
 use Rattle.fd_http.proofs.front.FrontSearch.see.Goals as goal
 
 pub returns-then-self-2-clause-found : goal.returns-then-self-2-clause-found
