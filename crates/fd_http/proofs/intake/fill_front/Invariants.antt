@@ -1,0 +1,16 @@
+use Rattle.std.proofs.Common.{◌≡◌, ◌-◌, ◌≤◌, max, length}
+use Rattle.fd_http.specs.Told.{IfTold}
+use Rattle.fd_http.specs.Search.{HasSearched}
+use Rattle.fd_http.proofs.intake.fill_front.Given as goal
+
+abbrev pub invariant-loop-size : goal.invariant-loop-size
+invariant-loop-size g l = record {
+  told : IfTold (g.S.Source.left l.fn.source) (g.S.Source.left l.source) l.fn.inbox l.inbox (λ rest after. rest ≡ after);
+  faults : g.S.Source.faults l.source ≡ g.S.Source.faults l.fn.source;
+  searched : HasSearched l.inbox l.search;
+  ahead : length l.inbox ≤ max (length l.fn.inbox) 20479;
+  short : l.search.place ≤ 16384;
+}
+
+abbrev pub decreases-loop-size : goal.decreases-loop-size
+decreases-loop-size g l = 16384 - length l.inbox

@@ -1,0 +1,31 @@
+use Rattle.std.proofs.Common.{ℕ, ◌≡◌, ◌<◌, List, length, take, arith, ◌++◌, sym, subst}
+use Rattle.std.specs.Io.KnownBytes.{Consumes}
+use Rattle.fd_http.specs.Told.{IfTold}
+use Rattle.std.proofs.lemmas.Grind.{common_steps}
+use Rattle.fd_http.proofs.RestLemmas.{body_start, body_more}
+use Rattle.fd_http.proofs.intake.read_body.Goals as goal
+
+pub loop-room-init : goal.loop-room-init
+loop-room-init g c =
+    let begun : c.extend_from_slice.new.self.items ≡ take c.min-here.result c.args.inbox.now = grind (arith, common_steps) in
+    record {
+      told = body_start _ c.args.inbox.now c.skip.new.self c.extend_from_slice.new.self.items c.min-here.result begun (grind (arith, common_steps));
+      within = grind (arith, common_steps);
+      used = λ short. grind (arith, common_steps);
+      ahead = grind (arith, common_steps);
+      faults = grind (arith, common_steps);
+    }
+
+pub loop-room-preserved : goal.loop-room-preserved
+loop-room-preserved g c =
+    let took : Consumes (g.S.Source.left c.loop-room.source) (g.S.Source.left c.read.new.self) (take c.in-Got.count c.read.new.piece) = c.in-Got.ensures.bytes.0 in
+    let grown : c.extend_from_slice-in-Got.new.self.items ≡ c.loop-room.body.items ++ take c.in-Got.count c.read.new.piece = c.in_ok-extend_from_slice-in-Got.ensures.items in
+    let short : length c.loop-room.body.items < c.args.size = omega (arith, c.loop-room-test.true) in
+    let P : List ℕ → Type 0 = λ xs. IfTold (g.S.Source.left c.args.source.now) (g.S.Source.left c.read.new.self) c.args.inbox.now c.skip.new.self (λ (rest after : List ℕ). rest ≡ xs ++ after) in
+    record {
+      told = subst P (sym grown) (body_more (g.S.Source.left c.args.source.now) (g.S.Source.left c.loop-room.source) (g.S.Source.left c.read.new.self) c.args.inbox.now c.skip.new.self c.loop-room.body.items (take c.in-Got.count c.read.new.piece) (c.loop-room.invariant.used short) c.loop-room.invariant.told took);
+      within = grind (arith, common_steps);
+      used = λ _. c.loop-room.invariant.used short;
+      ahead = c.loop-room.invariant.ahead;
+      faults = grind (arith, common_steps);
+    }

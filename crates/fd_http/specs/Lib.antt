@@ -1,0 +1,10 @@
+pub mod Front
+pub mod Headers
+pub mod Heads
+pub mod Rests
+pub mod Told
+pub mod Arrives
+pub mod Leads
+pub mod Intake
+pub mod Search
+pub mod Replies

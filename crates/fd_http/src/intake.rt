@@ -1,0 +1,123 @@
+ghost use Rattle.std.specs.Prelude.{◌≡◌, ◌≤◌, ◌<◌, max, length, take, drop, IfOk, IfSome, IfNone, IsOkAnd};
+ghost use Rattle.fd_http.specs.Arrives.{Arrives, ReadCause};
+ghost use Rattle.fd_http.specs.Front.{HasNoFront};
+ghost use Rattle.fd_http.specs.Search.{HasSearched};
+ghost use Rattle.fd_http.specs.Intake.{Fills, FrontAt, ReadsBody};
+
+use crate::front::FrontSearch;
+use crate::head::{body_len, read_head};
+use crate::{Arrived, Inbox, Request, RequestFault};
+use fd_device::{Source, Taken};
+use fd_kinds::Bytes;
+use std::alloc::Global;
+
+const LONGEST_FRONT: usize = 16_384;
+
+const PIECE: usize = 4_096;
+
+/// Looks for a front of at most so many bytes, and goes on where the search stands.
+fn find_front(search: &mut FrontSearch, bytes: &[u8]) -> Option<usize>
+    requires searched { HasSearched bytes.now search.old }
+    requires short { search.old.place ≤ 16384 }
+    ensures front { IfSome result (FrontAt bytes.now) }
+    ensures none { IfNone result (HasNoFront (take 16384 bytes.now)) }
+    ensures searched { IfNone result (length bytes.now < 16384 → HasSearched bytes.now search.new) }
+{
+    search.front_len(&bytes[..bytes.len().min(LONGEST_FRONT)])
+}
+
+/// Reads until a front stands in the inbox, and answers its length. None is the end of the input
+/// before a first byte.
+fn fill_front<S: Source>(source: &mut S, inbox: &mut Inbox) -> Result<Option<usize>, RequestFault>
+    ensures fills { Fills (S.left source.old) (S.left source.new) inbox.old inbox.new result }
+    ensures front { IfOk result (λ found. IfSome found (FrontAt inbox.new)) }
+    ensures ahead { length inbox.new ≤ max (length inbox.old) 20479 }
+    ensures cause { ReadCause (S.faults source.old) (S.faults source.new) result }
+{
+    let mut search = FrontSearch::new();
+    let mut piece = [0u8; PIECE];
+    loop {
+        let bytes = inbox.as_slice();
+        let len = bytes.len();
+        if let Some(size) = find_front(&mut search, bytes) {
+            return Ok(Some(size));
+        }
+        if len >= LONGEST_FRONT {
+            return Err(RequestFault::BadHead);
+        }
+        match source.read(&mut piece) {
+            Taken::Failed => return Err(RequestFault::ReadFault),
+            Taken::Got(0) => {
+                if len == 0 {
+                    return Ok(None);
+                }
+                return Err(RequestFault::Cut);
+            }
+            Taken::Got(count) => inbox.extend(&piece[..count])?,
+        }
+    }
+}
+
+/// Reads a body of so many bytes, and no byte behind it from the source.
+fn read_body<S: Source>(
+    alloc: Global,
+    source: &mut S,
+    inbox: &mut Inbox,
+    size: usize,
+) -> Result<Bytes, RequestFault>
+    ensures reads { ReadsBody (S.left source.old) (S.left source.new) inbox.old inbox.new size result }
+    ensures ahead { length inbox.new ≤ length inbox.old }
+    ensures cause { ReadCause (S.faults source.old) (S.faults source.new) result }
+{
+    let mut body = Vec::with_capacity(alloc, size)?;
+    let here = inbox.as_slice().len().min(size);
+    body.extend_from_slice(&inbox.as_slice()[..here])?;
+    inbox.skip(here);
+    let mut room = [0u8; PIECE];
+    while body.len() < size {
+        let piece = &mut room[..(size - body.len()).min(PIECE)];
+        match source.read(piece) {
+            Taken::Failed => return Err(RequestFault::ReadFault),
+            Taken::Got(0) => return Err(RequestFault::Cut),
+            Taken::Got(count) => body.extend_from_slice(&piece[..count])?,
+        }
+    }
+    Ok(Bytes::from_vec(body))
+}
+
+/// Reads the next request: first what the inbox holds, then the source, in pieces of at most 4,096
+/// bytes and no further than the piece in which the request ends, so that the inbox stays small.
+/// A head that is refused is refused before its body is read. After a refusal the inbox is not used
+/// again.
+pub fn next_request<S: Source>(
+    alloc: Global,
+    source: &mut S,
+    inbox: &mut Inbox,
+) -> Result<Arrived, RequestFault>
+    ensures arrives { Arrives (S.left source.old) (S.left source.new) inbox.old inbox.new result }
+    ensures ahead { length inbox.new ≤ max (length inbox.old) 20479 }
+    ensures cause { ReadCause (S.faults source.old) (S.faults source.new) result }
+{
+    let Some(size) = fill_front(source, inbox)? else {
+        return Ok(Arrived::End);
+    };
+    let Some(head) = read_head(alloc, &inbox.as_slice()[..size])? else {
+        return Err(RequestFault::BadHead);
+    };
+    let rest = match body_len(&head) {
+        Ok(rest) => rest,
+        Err(fault) => return Err(fault),
+    };
+    inbox.skip(size);
+    let body = match read_body(alloc, source, inbox, rest) {
+        Ok(body) => body,
+        Err(fault) => return Err(fault),
+    };
+    Ok(Arrived::One(Request {
+        method: head.method,
+        target: head.target,
+        body,
+        encoded: head.encoded,
+        close: head.close,
+    }))
+}
