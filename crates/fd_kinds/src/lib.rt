@@ -13,6 +13,7 @@ mod roomy;
 mod row;
 mod share;
 mod size;
+mod stand;
 #[cfg(test)]
 mod tests;
 mod text;
@@ -31,4 +32,5 @@ pub use roomy::Roomy;
 pub use row::{Numbered, Row, compare_rows, row_order_laws};
 pub use share::Share;
 pub use size::row_bytes;
+pub use stand::Stand;
 pub use text::Text;
