@@ -6,6 +6,8 @@ mod body;
 mod fault;
 mod refusal;
 mod shape;
+#[cfg(test)]
+mod tests;
 mod texts;
 mod writes;
 
