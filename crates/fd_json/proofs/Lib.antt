@@ -1,0 +1,4 @@
+pub mod Decoding
+pub mod Gathered
+pub mod Parts
+pub mod Writing

@@ -1,0 +1,5 @@
+use Rattle.fd_json.proofs.Gathered.{Gathers}
+use Rattle.fd_json.proofs.shape.each_of.Given as goal
+
+abbrev pub invariant-loop-item : goal.invariant-loop-item
+invariant-loop-item g l = Gathers g.T.ReadsJson.meaning l.items l.item-index l.list

@@ -1,0 +1,6 @@
+pub mod Json
+pub mod Shape
+pub mod Body
+pub mod Answers
+pub mod Faults
+pub mod Added

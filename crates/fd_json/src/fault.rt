@@ -1,0 +1,45 @@
+use fd_kinds::NoMemory;
+
+/// Why a write body was not read. The first of these that holds is answered.
+#[derive(Debug, Clone, Copy, PartialEq, Eq)]
+pub enum BodyFault {
+    /// The bytes are no JSON text (RFC 8259) in UTF-8, or it nests more than 127 deep, or a number
+    /// in it is too large for a float.
+    NotJson,
+    /// The value has not the shape of a write body.
+    BadShape,
+    /// The text of a profile is no base64 with padding (RFC 4648, section 4). The first such text,
+    /// by the place of its series in the body and of its sample in the series, both from 0.
+    BadBase64 { series: u64, sample: u64 },
+    /// Want of memory.
+    NoMemory,
+}
+
+/// Why a part of a JSON value was not read.
+#[derive(Clone, Copy)]
+pub(crate) enum Unread {
+    BadShape,
+    NoMemory,
+}
+
+impl From<NoMemory> for Unread {
+    ghost use Rattle.std.specs.Prelude.{◌≡◌};
+    ghost use Rattle.fd_json.specs.declared.fault.Unread.TheVariants.{NoMemory};
+
+    ghost from_gives = { λ _ u. u ≡ NoMemory };
+
+    fn from(_error: NoMemory) -> Unread {
+        Unread::NoMemory
+    }
+}
+
+impl From<NoMemory> for BodyFault {
+    ghost use Rattle.std.specs.Prelude.{◌≡◌};
+    ghost use Rattle.fd_json.specs.declared.fault.BodyFault.TheVariants.{NoMemory};
+
+    ghost from_gives = { λ _ f. f ≡ NoMemory };
+
+    fn from(_error: NoMemory) -> BodyFault {
+        BodyFault::NoMemory
+    }
+}

@@ -1,0 +1,18 @@
+//! The JSON of write bodies, answers and refusals (RFC 8259).
+#![tactic(auto)]
+
+mod answers;
+mod body;
+mod fault;
+mod refusal;
+mod shape;
+#[cfg(test)]
+mod tests;
+mod texts;
+mod writes;
+
+pub use body::read_body;
+pub use fault::BodyFault;
+pub use refusal::{Fault, Parameter, fault_text};
+pub use shape::base64_law;
+pub use texts::{answer_text, number_text, stand_text};
