@@ -1,0 +1,8 @@
+//! The texts of a query: selectors of rows, and times.
+#![tactic(auto)]
+
+mod faults;
+mod times;
+
+pub use faults::SelectFault;
+pub use times::{MomentFault, moment};
