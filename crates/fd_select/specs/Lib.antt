@@ -1,1 +1,3 @@
+pub mod Machine
 pub mod Moments
+pub mod SelectorTexts

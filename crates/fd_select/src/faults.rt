@@ -7,3 +7,5 @@ pub enum SelectFault {
     BadMatcher { at: usize },
     NoMemory,
 }
+
+ghost use Rattle.fd_select.specs.Machine.{step};

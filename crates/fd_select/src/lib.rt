@@ -2,6 +2,7 @@
 #![tactic(auto)]
 
 mod faults;
+mod reader;
 mod times;
 
 pub use faults::SelectFault;
