@@ -64,7 +64,7 @@ abbrev pub steps : Reader → List ℕ → Option Reader
 steps r [] = Some r
 steps r (b ∷ bs) = option_and_then (λ s. steps s bs) (step r b)
 
--- a value that ends at this byte is text
+-- a name and a value that end at this byte are text
 abbrev pub EndsText : Stage → ℕ → Type 0
-EndsText (Quoted name op value) b = b ≡ 34 → IsUtf8 value
+EndsText (Quoted name op value) b = b ≡ 34 → IsUtf8 name × IsUtf8 value
 EndsText _ b = Unit {0}

@@ -7,5 +7,3 @@ pub enum SelectFault {
     BadMatcher { at: usize },
     NoMemory,
 }
-
-ghost use Rattle.fd_select.specs.Machine.{step};
