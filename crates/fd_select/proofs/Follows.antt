@@ -12,6 +12,7 @@ use Rattle.fd_select.specs.declared.reader.Stage.TheVariants.{Open, Name, Named,
 use Rattle.fd_select.specs.declared.reader.Reader.{Reader}
 use Rattle.fd_select.specs.SelectorTexts.{spaces, is_name_start, is_name_byte, is_label_name, op_text, escaped, quoted, IsMatcher, IsComma, IsRest, IsList, IsBraced}
 use Rattle.fd_select.specs.Machine.{matcher, step, step_at, steps, behind_open, behind_name, in_name, behind_bang, behind_operator, in_quoted, behind_backslash, behind_matcher}
+use Rattle.fd_select.proofs.Leads.{append-nil}
 
 -- what may follow from each place, where done stands already and ms stands in the end
 record Closes (done : List Matcher) (bs : List ℕ) (ms : List Matcher) : Type 0 where
@@ -82,10 +83,6 @@ FollowsAt done End bs ms = (bs ≡ []) × (ms ≡ done)
 
 abbrev Follows : Reader → List ℕ → List Matcher → Type 0
 Follows r bs ms = FollowsAt r.matchers r.stage bs ms
-
-append-nil : {A : Type 0} (xs : List A) → xs ++ [] ≡ xs
-append-nil [] = refl
-append-nil (x ∷ xs) = ap (λ l. x ∷ l) (append-nil xs)
 
 -- ---- one byte in front
 

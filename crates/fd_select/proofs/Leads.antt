@@ -18,7 +18,7 @@ reader ms stage = record { matchers = ms; stage = stage }
 abbrev pub start : Reader
 start = reader [] Open
 
-append-nil : {A : Type 0} (xs : List A) → xs ++ [] ≡ xs
+pub append-nil : {A : Type 0} (xs : List A) → xs ++ [] ≡ xs
 append-nil [] = refl
 append-nil (x ∷ xs) = ap (λ l. x ∷ l) (append-nil xs)
 

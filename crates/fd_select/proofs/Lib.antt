@@ -1,3 +1,5 @@
 pub mod Follows
 pub mod Leads
 pub mod Numbers
+pub mod Places
+pub mod TextFits

@@ -1,3 +1,4 @@
+pub mod Braces
 pub mod Machine
 pub mod Moments
 pub mod SelectorTexts

@@ -1,6 +1,7 @@
 //! The texts of a query: selectors of rows, and times.
 #![tactic(auto)]
 
+mod braces;
 mod faults;
 mod reader;
 mod times;
