@@ -1,5 +1,5 @@
 -- The texts of selectors: a profile type, and behind it matchers in braces.
-use Rattle.std.specs.Prelude.{ℕ, ◌≡◌, ◌<◌, ◌≤◌, ◌==◌, ◌&&◌, ◌||◌, ◌⊎◌, Bool, true, false, IsTrue, if◌then◌else◌, List, [], ◌∷◌, ◌++◌, length, take, replicate, codes, IsUtf8, Result, Ok, Err}
+use Rattle.std.specs.Prelude.{ℕ, ◌≡◌, ◌<◌, ◌≤◌, ◌==◌, ◌&&◌, ◌||◌, ◌⊎◌, Bool, true, false, IsTrue, if◌then◌else◌, List, [], ◌∷◌, ◌++◌, length, take, replicate, codes, IsUtf8}
 use Rattle.std.specs.Char.{is_ascii_alphabetic, is_ascii_digit}
 use Rattle.std.specs.List.{flat_map, list_all}
 use Rattle.fd_kinds.specs.declared.query.ProfileType.{ProfileType}
@@ -128,9 +128,8 @@ pub record HasNoMatchers (text : List ℕ) (at : ℕ) : Type 0 where
   pub no_matchers : (ms : List Matcher) → AreMatchers (braces_part text) ms → ⊥
   pub place : IsLongestBeginning text at
 
--- what a text is: a selector, or a refusal
-abbrev pub Answers : List ℕ → Result Selector SelectFault → Type 0
-Answers text (Ok s) = IsSelectorText text s
-Answers text (Err BadType) = HasNoType text
-Answers text (Err (BadMatcher at)) = HasNoMatchers text at
-Answers text (Err NoMemory) = ⊥
+-- where each refusal comes; want of memory is none of the text's
+abbrev pub Refuses : List ℕ → SelectFault → Type 0
+Refuses text BadType = HasNoType text
+Refuses text (BadMatcher at) = HasNoMatchers text at
+Refuses text NoMemory = ⊥

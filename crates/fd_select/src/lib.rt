@@ -3,8 +3,11 @@
 
 mod braces;
 mod faults;
+mod kind;
 mod reader;
+mod reading;
 mod times;
 
 pub use faults::SelectFault;
+pub use reading::selector;
 pub use times::{MomentFault, moment};
