@@ -1,5 +1,6 @@
 pub mod Follows
 pub mod Leads
+pub mod Meetings
 pub mod Numbers
 pub mod Parts
 pub mod Places
