@@ -1,7 +1,7 @@
 -- What leads the reader to its end is the text of the matchers that it then has.
-use Rattle.std.proofs.Common.{ℕ, zero, suc, ◌≡◌, ◌<◌, ◌+◌, Bool, true, false, cond, eqb, ◌&&◌, ◌||◌, List, [], ◌∷◌, ◌++◌, Option, Some, None, refl, sym, ap, subst, ◌∙◌, arith, append_assoc, inl, inr, ◌⊎◌, replicate, codes}
+use Rattle.std.proofs.Common.{ℕ, suc, ◌≡◌, Bool, true, false, cond, eqb, ◌||◌, List, [], ◌∷◌, ◌++◌, Option, Some, None, refl, sym, ap, subst, ◌∙◌, arith, append_assoc, inl, inr}
 use Rattle.std.specs.List.{flat_map, list_all}
-use Rattle.std.specs.Option.{option_and_then, IfSome}
+use Rattle.std.specs.Option.{IfSome}
 use Rattle.std.proofs.lemmas.Bool.Decides.{nat_tests}
 use Rattle.std.proofs.lemmas.Option.{option_and_then_some, same_Some}
 use Rattle.fd_kinds.specs.declared.query.MatchOp.{MatchOp}
@@ -10,7 +10,7 @@ use Rattle.fd_kinds.specs.declared.query.Matcher.{Matcher}
 use Rattle.fd_select.specs.declared.reader.Stage.{Stage}
 use Rattle.fd_select.specs.declared.reader.Stage.TheVariants.{Open, Name, Named, Bang, Operator, Quoted, Escaped, Matched, End}
 use Rattle.fd_select.specs.declared.reader.Reader.{Reader}
-use Rattle.fd_select.specs.SelectorTexts.{spaces, is_name_start, is_name_byte, is_label_name, op_text, escaped, quoted, IsMatcher, IsComma, IsRest, IsList, IsBraced}
+use Rattle.fd_select.specs.SelectorTexts.{spaces, is_name_start, is_name_byte, is_label_name, op_text, escaped, quoted, IsMatcher, IsRest, IsList, IsBraced}
 use Rattle.fd_select.specs.Machine.{matcher, step, step_at, steps, behind_open, behind_name, in_name, behind_bang, behind_operator, in_quoted, behind_backslash, behind_matcher}
 use Rattle.fd_select.proofs.Leads.{append-nil}
 
@@ -110,9 +110,11 @@ close_space done bs ms h =
 -- a comma in front of a list
 list_comma : (more : List Matcher) (list : List ℕ) (i n : ℕ) → IsList list more → (rest : List ℕ) × IsRest rest more × ((44 ∷ (spaces i ++ (list ++ (spaces n ++ 125 ∷ [])))) ≡ rest ++ (spaces n ++ 125 ∷ []))
 list_comma [] list i n e = (44 ∷ spaces i, inr (record { before = 0; after = i; parts = refl }), ap (λ t. 44 ∷ (spaces i ++ (t ++ (spaces n ++ 125 ∷ [])))) e)
-list_comma (m ∷ more) list i n (mt, r, e, is_matcher, is_rest) =
-    ((44 ∷ spaces i) ++ list, (44 ∷ spaces i, mt, r, ap (λ t. (44 ∷ spaces i) ++ t) e, record { before = 0; after = i; parts = refl }, is_matcher, is_rest),
-    ap (λ t. 44 ∷ t) (sym (append_assoc (spaces i) list (spaces n ++ 125 ∷ []))))
+list_comma (m ∷ more) list i n (mt, r, e, is_matcher, is_rest) = (
+  (44 ∷ spaces i) ++ list,
+  (44 ∷ spaces i, mt, r, ap (λ t. (44 ∷ spaces i) ++ t) e, record { before = 0; after = i; parts = refl }, is_matcher, is_rest),
+  ap (λ t. 44 ∷ t) (sym (append_assoc (spaces i) list (spaces n ++ 125 ∷ []))),
+)
 
 close_comma : (done : List Matcher) (bs : List ℕ) (ms : List Matcher) → Opens done bs ms → Closes done (44 ∷ bs) ms
 close_comma done bs ms h =
@@ -182,7 +184,7 @@ open_name done bs b ms e h =
     let is_name : is_label_name name ≡ true = rw e h.is_tail in
     let is_matcher : IsMatcher text m = record { is_name = is_name; before = n.before; after = o.after; parts = refl } in
     let e1 : bs ≡ h.tail ++ (spaces n.before ++ (op_text n.op ++ (spaces o.after ++ 34 ∷ (flat_map escaped q.text ++ 34 ∷ (c.rest ++ end))))) =
-        h.parts ∙ ap (λ t. h.tail ++ t) (n.parts ∙ ap (λ t. spaces n.before ++ (op_text n.op ++ t)) (o.parts ∙ ap (λ t. spaces o.after ++ 34 ∷ t) (q.parts ∙ ap (λ t. flat_map escaped q.text ++ 34 ∷ t) c.parts))) in
+    h.parts ∙ ap (λ t. h.tail ++ t) (n.parts ∙ ap (λ t. spaces n.before ++ (op_text n.op ++ t)) (o.parts ∙ ap (λ t. spaces o.after ++ 34 ∷ t) (q.parts ∙ ap (λ t. flat_map escaped q.text ++ 34 ∷ t) c.parts))) in
     record {
       more = m ∷ c.more;
       all = c.all ∙ append_assoc done (m ∷ []) c.more;
@@ -190,7 +192,7 @@ open_name done bs b ms e h =
       list = text ++ c.rest;
       after = c.after;
       is_list = (text, c.rest, refl, is_matcher, c.is_rest);
-      parts = ap (λ t. b ∷ t) e1 ∙ regrouped name (op_text n.op) (flat_map escaped q.text) c.rest end n.before o.after
+      parts = ap (λ t. b ∷ t) e1 ∙ regrouped name (op_text n.op) (flat_map escaped q.text) c.rest end n.before o.after;
     }
 
 -- ---- the steps, backwards

@@ -1,5 +1,5 @@
 -- The text of matchers in braces leads the reader to its end, with those matchers.
-use Rattle.std.proofs.Common.{ℕ, zero, suc, ◌≡◌, ◌<◌, ◌+◌, Bool, true, false, cond, eqb, ◌&&◌, ◌||◌, List, [], ◌∷◌, ◌++◌, Option, Some, None, refl, sym, ap, subst, ◌∙◌, arith, append_assoc, inl, inr, ◌⊎◌, replicate, codes}
+use Rattle.std.proofs.Common.{ℕ, zero, suc, ◌≡◌, Bool, true, false, eqb, ◌&&◌, ◌||◌, List, [], ◌∷◌, ◌++◌, Option, Some, None, refl, sym, ap, ◌∙◌, arith, append_assoc, inl, inr}
 use Rattle.std.specs.List.{flat_map, list_all}
 use Rattle.std.specs.Option.{option_and_then}
 use Rattle.std.proofs.lemmas.Bool.Decides.{nat_tests}
@@ -7,9 +7,9 @@ use Rattle.fd_kinds.specs.declared.query.MatchOp.{MatchOp}
 use Rattle.fd_kinds.specs.declared.query.MatchOp.TheVariants.{Equal, NotEqual}
 use Rattle.fd_kinds.specs.declared.query.Matcher.{Matcher}
 use Rattle.fd_select.specs.declared.reader.Stage.{Stage}
-use Rattle.fd_select.specs.declared.reader.Stage.TheVariants.{Open, Name, Named, Bang, Operator, Quoted, Escaped, Matched, End}
+use Rattle.fd_select.specs.declared.reader.Stage.TheVariants.{Open, Name, Named, Operator, Quoted, Escaped, Matched, End}
 use Rattle.fd_select.specs.declared.reader.Reader.{Reader}
-use Rattle.fd_select.specs.SelectorTexts.{spaces, is_name_start, is_name_byte, is_label_name, op_text, escaped, quoted, IsMatcher, IsComma, IsRest, IsList, IsBraced}
+use Rattle.fd_select.specs.SelectorTexts.{spaces, is_name_start, is_name_byte, is_label_name, op_text, escaped, IsMatcher, IsComma, IsRest, IsList, IsBraced}
 use Rattle.fd_select.specs.Machine.{matcher, step, steps}
 
 abbrev pub reader : List Matcher → Stage → Reader

@@ -1,7 +1,6 @@
 -- What reading answers is what the text is, and a text is one thing alone.
-use Rattle.std.proofs.Common.{ℕ, zero, suc, ◌≡◌, ◌≢◌, ◌<◌, ◌≤◌, ◌+◌, ◌-◌, Bool, true, false, cond, List, [], ◌∷◌, ◌++◌, length, take, drop, Option, Some, None, Result, Ok, Err, refl, sym, ap, subst, ◌∙◌, arith, append_assoc, inl, inr, ◌⊎◌, IsUtf8, length-append, codes, ltb}
+use Rattle.std.proofs.Common.{ℕ, suc, ◌≡◌, ◌<◌, ◌+◌, ◌-◌, Bool, true, false, cond, List, [], ◌∷◌, ◌++◌, length, take, Result, Ok, Err, refl, sym, ap, subst, ◌∙◌, arith, append_assoc, inl, inr, ◌⊎◌, IsUtf8, length-append, codes, ltb}
 use Rattle.std.proofs.lemmas.Bool.Decides.{nat_tests}
-use Rattle.std.proofs.lemmas.List.{take_at}
 use Rattle.std.proofs.lemmas.Str.{IsUtf8-append, IsUtf8-from_ascii}
 use Rattle.std.proofs.lemmas.Str.Ascii.{IsAscii-cons, IsAscii-nil}
 use Rattle.fd_kinds.specs.declared.query.Matcher.{Matcher}
@@ -12,10 +11,10 @@ use Rattle.fd_select.specs.declared.faults.SelectFault.TheVariants.{BadType, Bad
 use Rattle.std.proofs.lemmas.Option.{same_Some}
 use Rattle.fd_select.specs.declared.reader.Reader.{Reader}
 use Rattle.fd_select.specs.declared.reader.Stage.TheVariants.{End}
-use Rattle.fd_select.specs.SelectorTexts.{type_part, braces_part, parts_of, kind_parts, IsBraced, AreMatchers, IsSelectorText, BeginsSelector, IsLongestBeginning, HasNoType, HasNoMatchers, Refuses}
-use Rattle.fd_select.specs.Braces.{BeginsBraces, IsStop}
+use Rattle.fd_select.specs.SelectorTexts.{type_part, braces_part, parts_of, kind_parts, IsBraced, AreMatchers, IsSelectorText, IsLongestBeginning, HasNoMatchers, Refuses}
+use Rattle.fd_select.specs.Braces.{IsStop}
 use Rattle.fd_select.specs.Reads.{ReadsKind, Meets}
-use Rattle.fd_select.proofs.Leads.{append-nil, reader, start, braced_leads}
+use Rattle.fd_select.proofs.Leads.{reader, braced_leads}
 use Rattle.fd_select.proofs.Parts.{type_front, braces_front, no_braces}
 
 -- ---- each exit
@@ -60,17 +59,17 @@ stopped front rest kind at alone k u h =
           more = b.more;
           is_text = subst IsUtf8 (sym joined) (braced_text front (take at rest ++ b.more) u b.is_text);
           selector = record { kind = kind; matchers = b.matchers };
-          spells = subst (λ t. IsSelectorText t (record { kind = kind; matchers = b.matchers })) (sym joined) (selected front (take at rest ++ b.more) kind b.matchers alone k b.is_braced)
+          spells = subst (λ t. IsSelectorText t (record { kind = kind; matchers = b.matchers })) (sym joined) (selected front (take at rest ++ b.more) kind b.matchers alone k b.is_braced);
         };
         longest = λ n lt le g.
             let m = n - (length front + 1) in
             let split : n ≡ length front + 1 + m = omega arith in
             let far : take n text ++ g.more ≡ front ++ 123 ∷ (take m rest ++ g.more) =
-                ap (λ i. take i text ++ g.more) split ∙ ap (λ t. t ++ g.more) (prefix front rest m) ∙ append_assoc front (123 ∷ take m rest) g.more in
+            ap (λ i. take i text ++ g.more) split ∙ ap (λ t. t ++ g.more) (prefix front rest m) ∙ append_assoc front (123 ∷ take m rest) g.more in
             let braces : braces_part (take n text ++ g.more) ≡ 123 ∷ (take m rest ++ g.more) = ap braces_part far ∙ braces_front front (take m rest ++ g.more) alone in
             let long : length text ≡ length front + (length rest + 1) = length-append front (123 ∷ rest) ∙ omega arith in
-            h.longest m (omega arith) (omega arith) g.more g.selector.matchers (subst (λ t. AreMatchers t g.selector.matchers) braces g.spells.matchers)
-      }
+            h.longest m (omega arith) (omega arith) g.more g.selector.matchers (subst (λ t. AreMatchers t g.selector.matchers) braces g.spells.matchers);
+      };
     }
 
 -- ---- a text is one thing alone
@@ -111,23 +110,33 @@ one_place text m n h k = by (ltb m n) refl
     by_other : (t : Bool) → ltb n m ≡ t → ltb m n ≡ false → m ≡ n
     by_other true e f = let below : n < m = grind (arith, nat_tests) in absurd (k.longest m below h.within h.begins)
     by_other false e f = grind (arith, nat_tests)
+
     by : (t : Bool) → ltb m n ≡ t → m ≡ n
     by true e = let below : m < n = grind (arith, nat_tests) in absurd (h.longest n below k.within k.begins)
     by false e = by_other (ltb n m) refl e
 
+pub one_refusal : (text : List ℕ) (a b : SelectFault) → Refuses text a → Refuses text b → a ≡ b
+one_refusal text NoMemory b h k = absurd h
+one_refusal text BadType NoMemory h k = absurd k
+one_refusal text (BadMatcher at) NoMemory h k = absurd k
+one_refusal text BadType BadType h k = refl
+one_refusal text BadType (BadMatcher at) h k = absurd (h k.kind k.is_kind)
+one_refusal text (BadMatcher at) BadType h k = absurd (k h.kind h.is_kind)
+one_refusal text (BadMatcher at) (BadMatcher other) h k = ap (λ n. BadMatcher n) (one_place text at other h.place k.place)
+
+pub apart : (text : List ℕ) (s : Selector) (fault : SelectFault) → IsSelectorText text s → Refuses text fault → ⊥
+apart text s BadType h k = k s.kind h.kind
+apart text s (BadMatcher at) h k = k.no_matchers s.matchers h.matchers
+apart text s NoMemory h k = k
+
 pub selects : (text : List ℕ) (r : Result Selector SelectFault) (s : Selector) → Meets text r → IsSelectorText text s → (r ≡ Ok s) ⊎ (r ≡ Err NoMemory)
 selects text (Ok t) s h k = inl (ap (λ x. Ok x) (one_selector text t s h k))
-selects text (Err BadType) s h k = absurd (h s.kind k.kind)
-selects text (Err (BadMatcher at)) s h k = absurd (h.no_matchers s.matchers k.matchers)
+selects text (Err BadType) s h k = absurd (apart text s BadType k h)
+selects text (Err (BadMatcher at)) s h k = absurd (apart text s (BadMatcher at) k h)
 selects text (Err NoMemory) s h k = inr refl
 
 pub refuses : (text : List ℕ) (r : Result Selector SelectFault) (fault : SelectFault) → Meets text r → Refuses text fault → (r ≡ Err fault) ⊎ (r ≡ Err NoMemory)
-refuses text (Ok t) BadType h k = absurd (k t.kind h.kind)
-refuses text (Ok t) (BadMatcher at) h k = absurd (k.no_matchers t.matchers h.matchers)
-refuses text r NoMemory h k = absurd k
-refuses text (Err BadType) BadType h k = inl refl
-refuses text (Err BadType) (BadMatcher at) h k = absurd (h k.kind k.is_kind)
-refuses text (Err (BadMatcher at)) BadType h k = absurd (k h.kind h.is_kind)
-refuses text (Err (BadMatcher at)) (BadMatcher other) h k = inl (ap (λ n. Err (BadMatcher n)) (one_place text at other h.place k.place))
-refuses text (Err NoMemory) BadType h k = inr refl
-refuses text (Err NoMemory) (BadMatcher at) h k = inr refl
+refuses text (Ok t) fault h k = absurd (apart text t fault h k)
+refuses text (Err BadType) fault h k = inl (ap (λ f. Err f) (one_refusal text BadType fault h k))
+refuses text (Err (BadMatcher at)) fault h k = inl (ap (λ f. Err f) (one_refusal text (BadMatcher at) fault h k))
+refuses text (Err NoMemory) fault h k = inr refl

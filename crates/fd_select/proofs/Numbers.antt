@@ -1,5 +1,5 @@
 -- What std's reader of a signed number gives is the whole number that the text spells.
-use Rattle.std.proofs.Common.{ℕ, ℤ, pos, ◌≡◌, ◌≢◌, ◌<◌, ◌≤◌, ◌-◌, ◌^◌, Bool, true, false, cond, nat_eq, nat_lt, nat_le, ◌&&◌, List, [], ◌∷◌, length, drop, get_or, Option, Some, None, Result, Ok, Err, refl, arith, rules, w64, sym, subst, eqb, ltb, leb, neg_ℤ}
+use Rattle.std.proofs.Common.{ℕ, ℤ, pos, ◌≡◌, ◌≢◌, ◌<◌, ◌≤◌, ◌-◌, ◌^◌, Bool, true, false, cond, List, [], ◌∷◌, length, get_or, Some, None, Result, Ok, Err, refl, arith, rules, w64, sym, subst, eqb, neg_ℤ}
 use Rattle.std.specs.Result.{OkIff, result_ok}
 use Rattle.std.specs.Str.{all_ascii_digits}
 use Rattle.std.specs.Str.Parse.{ParsesSigned}
@@ -43,4 +43,3 @@ whole_number_read (c ∷ cs) r h p = by_minus (eqb c 45) refl
         let minus : c ≡ 45 = grind (arith, nat_tests) in
         subst (λ (d : ℕ). ParsesSigned w64 10 (d ∷ cs) r → result_ok r ≡ whole_number (d ∷ cs)) (sym minus) (λ k. behind_minus cs r k) h
     by_minus false e = rw e (plain (c ∷ cs) r h p (grind (arith, nat_tests)))
-

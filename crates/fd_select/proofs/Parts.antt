@@ -1,5 +1,5 @@
 -- A text cut at its first `:` or `{`.
-use Rattle.std.proofs.Common.{ℕ, zero, suc, ◌≡◌, ◌≢◌, ◌<◌, ◌≤◌, ◌+◌, Bool, true, false, cond, eqb, List, [], ◌∷◌, ◌++◌, length, get_or, Option, Some, None, refl, sym, ap, subst, ◌∙◌, arith, codes, MatchOption}
+use Rattle.std.proofs.Common.{ℕ, suc, ◌≡◌, ◌≢◌, ◌<◌, Bool, true, false, cond, eqb, List, [], ◌∷◌, ◌++◌, length, get_or, Option, Some, None, refl, sym, ap, ◌∙◌, arith, codes, MatchOption}
 use Rattle.std.specs.Borrow.{Bor}
 use Rattle.std.proofs.lemmas.Bool.Decides.{nat_tests}
 use Rattle.std.proofs.lemmas.Str.Pattern.{IsSplitOnceResult, split_parts}
@@ -47,6 +47,7 @@ some_part (b ∷ bs) h = by (eqb b 58) refl
     onto : (ps : List (List ℕ)) → onto_first b ps ≡ [] → ⊥
     onto [] e = cc
     onto (p ∷ ps) e = cc
+
     by : (t : Bool) → eqb b 58 ≡ t → ⊥
     by true e = let k : parts_of (b ∷ bs) ≡ [] ∷ parts_of bs = rw e refl in cc
     by false e = onto (parts_of bs) (let k : parts_of (b ∷ bs) ≡ onto_first b (parts_of bs) = rw e refl in sym k ∙ h)
@@ -60,6 +61,7 @@ sole_part (b ∷ bs) p h = by (λ q k. sole_part bs q k) (eqb b 58) refl
     onto sole [] k e = absurd (some_part bs k)
     onto sole (q ∷ []) k e = let same : bs ≡ q = sole q k in cc
     onto sole (q ∷ r ∷ ps) k e = cc
+
     by : ((q : List ℕ) → parts_of bs ≡ q ∷ [] → bs ≡ q) → (t : Bool) → eqb b 58 ≡ t → b ∷ bs ≡ p
     by sole true e = let k : parts_of (b ∷ bs) ≡ [] ∷ parts_of bs = rw e refl in absurd (some_part bs cc)
     by sole false e = onto sole (parts_of bs) refl (let k : parts_of (b ∷ bs) ≡ onto_first b (parts_of bs) = rw e refl in sym k ∙ h)

@@ -1,8 +1,8 @@
 -- Where the reader stops, the text's longest prefix ends that some matchers in braces begin with.
-use Rattle.std.proofs.Common.{ℕ, zero, suc, ◌≡◌, ◌≢◌, ◌<◌, ◌≤◌, ◌+◌, ◌-◌, List, [], ◌∷◌, ◌++◌, length, take, drop, get_or, Option, Some, None, refl, sym, ap, subst, ◌∙◌, arith, append_assoc, add-one, IsUtf8}
+use Rattle.std.proofs.Common.{ℕ, ◌≡◌, ◌≢◌, ◌<◌, ◌≤◌, ◌+◌, List, [], ◌∷◌, ◌++◌, length, take, drop, get_or, Option, Some, None, refl, sym, ap, subst, ◌∙◌, arith, append_assoc, IsUtf8}
 use Rattle.std.specs.Option.{option_and_then, IfSome}
 use Rattle.std.proofs.lemmas.List.{take_more, drop_more, take-append-drop, take-take, take_all, drop_all, get_or-take, length-take-le}
-use Rattle.std.proofs.lemmas.Str.{IsUtf8-append, IsUtf8-take, IsUtf8-drop, IsUtf8-nil, IsUtf8-from_ascii, IsCharBoundary-from_drop}
+use Rattle.std.proofs.lemmas.Str.{IsUtf8-append, IsUtf8-take, IsUtf8-nil, IsUtf8-from_ascii, IsCharBoundary-from_drop}
 use Rattle.std.proofs.lemmas.Str.Ascii.{IsAscii-cons, IsAscii-nil}
 use Rattle.fd_kinds.specs.declared.query.MatchOp.TheVariants.{Equal, NotEqual}
 use Rattle.fd_kinds.specs.declared.query.Matcher.{Matcher}
@@ -60,7 +60,7 @@ begins : (text : List ℕ) (i : ℕ) (r : Reader) → Read text i r → IsUtf8 (
 begins text i r h u =
     let c : Completes r = completes r.matchers r.stage in
     let leads : steps start (take i text ++ c.more) ≡ Some (reader c.matchers End) =
-        steps-append (take i text) c.more start ∙ ap (λ o. option_and_then (λ s. steps s c.more) o) h.led ∙ c.leads in
+    steps-append (take i text) c.more start ∙ ap (λ o. option_and_then (λ s. steps s c.more) o) h.led ∙ c.leads in
     record { more = c.more; is_text = IsUtf8-append (take i text) c.more u c.is_text; matchers = c.matchers; is_braced = braced_from_steps (take i text ++ c.more) c.matchers leads }
 
 -- a longer prefix goes on with the byte behind
@@ -104,7 +104,7 @@ read_more text i r s h l e =
           ∙ steps-append (take i text) (get_or text i 0 ∷ []) start
           ∙ ap (λ o. option_and_then (λ t. steps t (get_or text i 0 ∷ [])) o) h.led
           ∙ ap (λ o. option_and_then (λ t. steps t []) o) e;
-      fits = through (step r (get_or text i 0)) (λ t. Fits t.stage (drop (i + 1) text)) s e (fits_step r.matchers r.stage (get_or text i 0) (drop (i + 1) text) (fits_here text i r h l))
+      fits = through (step r (get_or text i 0)) (λ t. Fits t.stage (drop (i + 1) text)) s e (fits_step r.matchers r.stage (get_or text i 0) (drop (i + 1) text) (fits_here text i r h l));
     }
 
 pub ends_text : (text : List ℕ) (i : ℕ) (r : Reader) → Read text i r → i < length text → EndsText r.stage (get_or text i 0)
@@ -120,7 +120,7 @@ read_stops text i r u h l e =
           refused text i (length text) r h e l (omega arith) [] ms (subst (λ t. IsBraced (123 ∷ t) ms) all b);
       within = omega arith;
       begins = begins text i r h here;
-      longest = λ n lt le more ms b. refused text i n r h e lt le more ms b
+      longest = λ n lt le more ms b. refused text i n r h e lt le more ms b;
     }
 
 whole : (text : List ℕ) (i : ℕ) → length text ≤ i → take i text ≡ text
@@ -139,5 +139,5 @@ read_short text i r u h l e =
       none = λ ms b. let leads = braced_leads text ms b in e ms (let s : Some r ≡ Some (reader ms End) = sym led ∙ leads in cc);
       within = omega arith;
       begins = begins text (length text) r read (subst IsUtf8 (sym all) u);
-      longest = λ n lt le more ms b. absurd (omega arith)
+      longest = λ n lt le more ms b. absurd (omega arith);
     }

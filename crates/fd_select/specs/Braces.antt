@@ -1,5 +1,5 @@
 -- What reading the text behind `{` answers.
-use Rattle.std.specs.Prelude.{ℕ, ◌≡◌, ◌<◌, ◌≤◌, List, [], ◌∷◌, ◌++◌, length, take, IsUtf8, Result, Ok, Err}
+use Rattle.std.specs.Prelude.{ℕ, ◌<◌, ◌≤◌, List, ◌∷◌, ◌++◌, length, take, IsUtf8, Result, Ok, Err}
 use Rattle.fd_kinds.specs.declared.query.Matcher.{Matcher}
 use Rattle.fd_select.specs.declared.braces.BracesFault.{BracesFault}
 use Rattle.fd_select.specs.declared.braces.BracesFault.TheVariants.{Stops, NoMemory}

@@ -1,5 +1,5 @@
 -- The reader of the text behind `{`, byte by byte: where it stands, and where the next byte leads it.
-use Rattle.std.specs.Prelude.{ℕ, ◌≡◌, ◌==◌, ◌||◌, Bool, if◌then◌else◌, List, [], ◌∷◌, ◌++◌, Option, Some, None, IsUtf8}
+use Rattle.std.specs.Prelude.{ℕ, ◌≡◌, ◌==◌, ◌||◌, if◌then◌else◌, List, [], ◌∷◌, ◌++◌, Option, Some, None, IsUtf8}
 use Rattle.std.specs.Option.{option_and_then}
 use Rattle.fd_kinds.specs.declared.query.MatchOp.{MatchOp}
 use Rattle.fd_kinds.specs.declared.query.MatchOp.TheVariants.{Equal, NotEqual}

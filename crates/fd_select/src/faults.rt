@@ -5,7 +5,9 @@ ghost use Rattle.std.specs.Prelude.{◌≡◌};
 pub enum SelectFault {
     /// The text before the first `{` has not five parts, nor six with the last `delta`.
     BadType,
-    /// Bytes from `at` on are such that no selector begins so.
+    /// The type is right, and what stands in braces is not. `at` is the length, in bytes, of the
+    /// text's longest prefix that is also a prefix of some selector: the place of the first byte
+    /// that cannot stand there, or the text's length where the text ends too early.
     BadMatcher { at: usize },
     NoMemory,
 }

@@ -6,8 +6,10 @@ mod faults;
 mod kind;
 mod reader;
 mod reading;
+#[cfg(test)]
+mod tests;
 mod times;
 
 pub use faults::SelectFault;
-pub use reading::selector;
+pub use reading::{selector, selector_laws};
 pub use times::{MomentFault, moment};

@@ -117,7 +117,12 @@ impl Reader {
         }
     }
 
-    fn matched(matchers: Matchers, name: Bytes, op: MatchOp, value: Bytes) -> Result<Option<Reader>, NoMemory>
+    fn matched(
+        matchers: Matchers,
+        name: Bytes,
+        op: MatchOp,
+        value: Bytes,
+    ) -> Result<Option<Reader>, NoMemory>
         requires name { IsUtf8 name }
         requires value { IsUtf8 value }
         ensures { IfOk result (λ next. next ≡ at (matchers ++ matcher name op value ∷ []) Stage.Matched) }
@@ -131,7 +136,13 @@ impl Reader {
         Ok(Reader::at(matchers, Stage::Matched))
     }
 
-    fn pushed(matchers: Matchers, name: Bytes, op: MatchOp, value: Bytes, byte: u8) -> Result<Option<Reader>, NoMemory>
+    fn pushed(
+        matchers: Matchers,
+        name: Bytes,
+        op: MatchOp,
+        value: Bytes,
+        byte: u8,
+    ) -> Result<Option<Reader>, NoMemory>
         ensures { IfOk result (λ next. next ≡ at matchers (Stage.Quoted name op (value ++ byte ∷ []))) }
     {
         let mut value = value;
@@ -139,7 +150,13 @@ impl Reader {
         Ok(Reader::at(matchers, Stage::Quoted(name, op, value)))
     }
 
-    fn in_quoted(matchers: Matchers, name: Bytes, op: MatchOp, value: Bytes, byte: u8) -> Result<Option<Reader>, NoMemory>
+    fn in_quoted(
+        matchers: Matchers,
+        name: Bytes,
+        op: MatchOp,
+        value: Bytes,
+        byte: u8,
+    ) -> Result<Option<Reader>, NoMemory>
         requires { EndsText (Stage.Quoted name op value) byte }
         ensures { IfOk result (λ next. next ≡ in_quoted matchers name op value byte) }
     {
@@ -150,7 +167,13 @@ impl Reader {
         }
     }
 
-    fn behind_backslash(matchers: Matchers, name: Bytes, op: MatchOp, value: Bytes, byte: u8) -> Result<Option<Reader>, NoMemory>
+    fn behind_backslash(
+        matchers: Matchers,
+        name: Bytes,
+        op: MatchOp,
+        value: Bytes,
+        byte: u8,
+    ) -> Result<Option<Reader>, NoMemory>
         ensures { IfOk result (λ next. next ≡ behind_backslash matchers name op value byte) }
     {
         match byte {
@@ -183,7 +206,9 @@ impl Reader {
             Stage::Bang(name) => Ok(Reader::behind_bang(matchers, name, byte)),
             Stage::Operator(name, op) => Ok(Reader::behind_operator(matchers, name, op, byte)),
             Stage::Quoted(name, op, value) => Reader::in_quoted(matchers, name, op, value, byte),
-            Stage::Escaped(name, op, value) => Reader::behind_backslash(matchers, name, op, value, byte),
+            Stage::Escaped(name, op, value) => Reader::behind_backslash(
+                matchers, name, op, value, byte,
+            ),
             Stage::Matched => Ok(Reader::behind_matcher(matchers, byte)),
             Stage::End => Ok(None),
         }

@@ -58,9 +58,9 @@ fn read_selector(alloc: Global, text: &str) -> Result<Selector, SelectFault>
     }
 }
 
-/// The selector that a text spells: a profile type of five parts with `:` between them, and
-/// `:delta` behind them for profiles with a duration; then, in braces, matchers of labels, as
-/// `process_cpu:cpu:nanoseconds:cpu:nanoseconds:delta{job="api", env!=""}`.
+/// The selector that a text spells: name, sample type and unit, period type and unit, with `:`
+/// between them and `:delta` behind them for profiles with a duration; then, in braces or left
+/// out, matchers of labels, as `process_cpu:cpu:nanoseconds:cpu:nanoseconds{job="api", env!=""}`.
 pub fn selector(alloc: Global, text: &str) -> Result<Selector, SelectFault>
     ensures selected { IfOk result (λ s. IsSelectorText text.now s) }
     ensures refused { IfErr result (λ fault. fault ≢ SelectFault.NoMemory → Refuses text.now fault) }
@@ -70,3 +70,11 @@ pub fn selector(alloc: Global, text: &str) -> Result<Selector, SelectFault>
 {
     read_selector(alloc, text)
 }
+
+/// A text spells at most one selector, none where it is refused, and is refused in one way.
+#[tactic(auto, using(crate::proofs::Meetings::one_selector, crate::proofs::Meetings::one_refusal, crate::proofs::Meetings::apart))]
+pub fn selector_laws()
+    ensures one_selector { (text : List ℕ) (a b : Chosen) → IsSelectorText text a → IsSelectorText text b → a ≡ b }
+    ensures one_refusal { (text : List ℕ) (a b : Fault) → Refuses text a → Refuses text b → a ≡ b }
+    ensures apart { (text : List ℕ) (s : Chosen) (fault : Fault) → IsSelectorText text s → Refuses text fault → ⊥ }
+{}

@@ -14,7 +14,6 @@ pub enum MomentFault {
 
 /// A number with no `+` in front.
 fn whole_number(text: &str) -> Option<i64>
-
     ensures { result ≡ whole_number text.now }
 {
     if text.starts_with('+') {

@@ -1,4 +1,4 @@
-use Rattle.std.proofs.Common.{◌≡◌, ◌≢◌, get_or, sym, arith, ◌∙◌}
+use Rattle.std.proofs.Common.{◌≢◌, get_or, sym, arith, ◌∙◌}
 use Rattle.std.proofs.lemmas.Str.Pattern.{starts_char}
 use Rattle.std.proofs.lemmas.Bool.{false≢true}
 use Rattle.fd_select.proofs.Numbers.{whole_number_read}
