@@ -104,14 +104,14 @@ pub record IsSelectorText (text : List ℕ) (s : Selector) : Type 0 where
   pub kind : parts_of (type_part text) ≡ kind_parts s.kind
   pub matchers : AreMatchers (braces_part text) s.matchers
 
--- the bytes are a prefix of some text in UTF-8 that spells some selector
+-- The bytes are a prefix of some text in UTF-8 that spells some selector. A prefix may end within a character.
 pub record BeginsSelector (bytes : List ℕ) : Type 0 where
   pub more : List ℕ
   pub is_text : IsUtf8 (bytes ++ more)
   pub selector : Selector
   pub spells : IsSelectorText (bytes ++ more) selector
 
--- the length of the longest prefix of the text that is a prefix of some text of a selector
+-- the length, in bytes, of the text's longest prefix that is a prefix of some selector's text
 pub record IsLongestBeginning (text : List ℕ) (at : ℕ) : Type 0 where
   pub within : at ≤ length text
   pub begins : BeginsSelector (take at text)

@@ -16,7 +16,9 @@ pub(crate) enum BracesFault {
 
 /// The matchers, where the reader is at its end.
 fn finish(reader: Reader) -> Option<Matchers>
-    ensures { MatchOption result ((ms : List Matcher) → reader ≢ record { matchers = ms; stage = Stage.End }) (λ ms. reader ≡ record { matchers = ms; stage = Stage.End }) }
+    ensures { MatchOption result
+        ((ms : List Matcher) → reader ≢ record { matchers = ms; stage = Stage.End })
+        (λ ms. reader ≡ record { matchers = ms; stage = Stage.End }) }
 {
     let Reader { matchers, stage } = reader;
     match stage {
@@ -26,7 +28,7 @@ fn finish(reader: Reader) -> Option<Matchers>
 }
 
 /// The matchers of the text behind `{`.
-#[tactic(auto, using(crate::proofs::Places::read_first, crate::proofs::Places::read_more, crate::proofs::Places::read_stops, crate::proofs::Places::read_whole, crate::proofs::Places::read_short, crate::proofs::Places::ends_text))]
+#[tactic(auto, using(crate::proofs::Places::read_first, crate::proofs::Places::read_stops, crate::proofs::Places::read_short, crate::proofs::Places::ends_text))]
 pub(crate) fn read_braces(alloc: Global, text: &str) -> Result<Matchers, BracesFault>
     ensures { ReadsBraces text.now result }
 {

@@ -9,6 +9,7 @@ pub enum SelectFault {
     /// text's longest prefix that is also a prefix of some selector: the place of the first byte
     /// that cannot stand there, or the text's length where the text ends too early.
     BadMatcher { at: usize },
+    /// Want of memory.
     NoMemory,
 }
 

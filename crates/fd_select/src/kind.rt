@@ -7,7 +7,6 @@ use fd_kinds::{ProfileType, Text};
 use std::alloc::Global;
 
 /// The text before the first `:` and behind it, none where there is no `:`.
-#[tactic(auto, using(crate::proofs::Parts::parts_of_cut))]
 fn next_part(text: &str) -> Option<(&str, &str)>
     ensures { MatchOption result (parts_of text.now ≡ text.now ∷ []) (λ cut. parts_of text.now ≡ cut.0.now ∷ parts_of cut.1.now) }
 {

@@ -1,24 +1,23 @@
 ghost use Rattle.std.specs.Prelude.{◌≡◌, ◌≢◌, ℕ, List, [], ◌∷◌, ◌++◌, ◌⊎◌, Result, MatchOption, IfOk, IfErr};
 ghost use Rattle.fd_kinds.specs.declared.query.Selector.{Selector as Chosen};
 ghost use Rattle.fd_select.specs.declared.faults.SelectFault.{SelectFault as Fault};
-ghost use Rattle.fd_select.specs.SelectorTexts.{type_part, braces_part, IsSelectorText, Refuses};
+ghost use Rattle.fd_select.specs.SelectorTexts.{type_part, IsSelectorText, Refuses};
 ghost use Rattle.fd_select.specs.Reads.{OpensAt, Meets};
 
 use crate::SelectFault;
 use crate::braces::{BracesFault, read_braces};
 use crate::kind::read_kind;
-use fd_kinds::{Items, Matchers, Selector};
+use fd_kinds::{Items, Selector};
 use std::alloc::Global;
 
 /// The text before the first `{` and behind it, none where there is no `{`.
-#[tactic(auto, using(crate::proofs::Parts::opens_cut))]
 fn open_brace(text: &str) -> Option<(&str, &str)>
     ensures { MatchOption result (type_part text.now ≡ text.now) (λ cut. OpensAt text.now cut.0.now cut.1.now) }
 {
     text.split_once('{')
 }
 
-/// The selector of a text with braces: the type in front of the first `{`, and what stands behind it.
+/// The selector of a text with these parts before and behind its first `{`.
 fn with_braces(alloc: Global, front: &str, rest: &str) -> Result<Selector, SelectFault>
     requires { type_part front.now ≡ front.now }
     ensures { Meets (front.now ++ 123 ∷ rest.now) result }
@@ -64,7 +63,7 @@ fn read_selector(alloc: Global, text: &str) -> Result<Selector, SelectFault>
 pub fn selector(alloc: Global, text: &str) -> Result<Selector, SelectFault>
     ensures selected { IfOk result (λ s. IsSelectorText text.now s) }
     ensures refused { IfErr result (λ fault. fault ≢ SelectFault.NoMemory → Refuses text.now fault) }
-    // A selector's text is answered by that selector, and a text that is refused by that refusal, unless memory is short.
+    // The converse, unless memory is short.
     ensures selects { (s : Chosen) → IsSelectorText text.now s → (result ≡ Ok s) ⊎ (result ≡ Err SelectFault.NoMemory) }
     ensures refuses { (fault : Fault) → Refuses text.now fault → (result ≡ Err fault) ⊎ (result ≡ Err SelectFault.NoMemory) }
 {

@@ -9,6 +9,7 @@ use jiff::{Error, Timestamp};
 pub enum MomentFault {
     /// Neither a number of milliseconds nor an instant.
     BadTime,
+    /// Want of memory.
     NoMemory,
 }
 
@@ -33,7 +34,8 @@ fn instant(text: &str) -> Result<i64, MomentFault>
 }
 
 /// The time that a text says, in milliseconds since the Unix epoch: a whole number, with no `+`
-/// in front, or an instant in RFC 3339 and its Temporal extensions, as `2024-06-19T17:30:05Z`.
+/// in front, or an instant in RFC 3339 and its Temporal extensions, as `2024-06-19T17:30:05Z`,
+/// rounded down to a whole millisecond. It takes no memory.
 pub fn moment(text: &str) -> Result<i64, MomentFault>
     ensures { result ≡ moment_of text.now }
 {
