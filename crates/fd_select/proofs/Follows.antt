@@ -1,8 +1,7 @@
 -- What leads the reader to its end is the text of the matchers that it then has.
-use Rattle.std.proofs.Common.{ℕ, suc, ◌≡◌, Bool, true, false, cond, eqb, ◌||◌, List, [], ◌∷◌, ◌++◌, Option, Some, None, refl, sym, ap, subst, ◌∙◌, arith, append_assoc, inl, inr}
+use Rattle.std.proofs.Common.{ℕ, suc, ◌≡◌, true, false, eqb, ◌||◌, List, [], ◌∷◌, ◌++◌, Option, Some, None, refl, sym, ap, subst, ◌∙◌, append_assoc, inl, inr}
 use Rattle.std.specs.List.{flat_map, list_all}
 use Rattle.std.specs.Option.{IfSome}
-use Rattle.std.proofs.lemmas.Bool.Decides.{nat_tests}
 use Rattle.std.proofs.lemmas.Option.{option_and_then_some, same_Some}
 use Rattle.fd_kinds.specs.declared.query.MatchOp.{MatchOp}
 use Rattle.fd_kinds.specs.declared.query.MatchOp.TheVariants.{Equal, NotEqual}
@@ -12,7 +11,7 @@ use Rattle.fd_select.specs.declared.reader.Stage.TheVariants.{Open, Name, Named,
 use Rattle.fd_select.specs.declared.reader.Reader.{Reader}
 use Rattle.fd_select.specs.SelectorTexts.{spaces, is_name_start, is_name_byte, is_label_name, op_text, escaped, quoted, IsMatcher, IsRest, IsList, IsBraced}
 use Rattle.fd_select.specs.Machine.{matcher, step, step_at, steps, behind_open, behind_name, in_name, behind_bang, behind_operator, in_quoted, behind_backslash, behind_matcher}
-use Rattle.fd_select.proofs.Leads.{append-nil}
+use Rattle.fd_select.proofs.Basics.{append-nil, by_test, through, is_byte}
 
 -- what may follow from each place, where done stands already and ms stands in the end
 record Closes (done : List Matcher) (bs : List ℕ) (ms : List Matcher) : Type 0 where
@@ -197,13 +196,6 @@ open_name done bs b ms e h =
 
 -- ---- the steps, backwards
 
-by_test : {A : Type 0} (t : Bool) (x y : Option A) (P : A → Type 0) → (t ≡ true → IfSome x P) → (t ≡ false → IfSome y P) → IfSome (cond t x y) P
-by_test true x y P f g = f refl
-by_test false x y P f g = g refl
-
-is_byte : (b n : ℕ) → eqb b n ≡ true → n ≡ b
-is_byte b n e = grind (arith, nat_tests)
-
 back_open : (done : List Matcher) (b : ℕ) (bs : List ℕ) (ms : List Matcher) → IfSome (behind_open done b) (λ s. Follows s bs ms → Opens done (b ∷ bs) ms)
 back_open done b bs ms =
     by_test (eqb b 32) _ _ (λ s. Follows s bs ms → Opens done (b ∷ bs) ms)
@@ -282,10 +274,6 @@ back_at done (Quoted name op value) b bs ms = back_quoted done name op value b b
 back_at done (Escaped name op value) b bs ms = back_escape done name op value b bs ms
 back_at done Matched b bs ms = back_matcher done b bs ms
 back_at done End b bs ms = tt
-
-through : {A : Type 0} (o : Option A) (P : A → Type 0) (x : A) → o ≡ Some x → IfSome o P → P x
-through None P x e h = cc
-through (Some y) P x e h = subst P (same_Some y x e) h
 
 at_end : (r : Reader) (ms : List Matcher) → r ≡ record { matchers = ms; stage = End } → Follows r [] ms
 at_end r ms e = subst (λ s. Follows s [] ms) (sym e) (refl, refl)

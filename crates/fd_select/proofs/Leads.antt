@@ -11,16 +11,13 @@ use Rattle.fd_select.specs.declared.reader.Stage.TheVariants.{Open, Name, Named,
 use Rattle.fd_select.specs.declared.reader.Reader.{Reader}
 use Rattle.fd_select.specs.SelectorTexts.{spaces, is_name_start, is_name_byte, is_label_name, op_text, escaped, IsMatcher, IsComma, IsRest, IsList, IsBraced}
 use Rattle.fd_select.specs.Machine.{matcher, step, steps}
+use Rattle.fd_select.proofs.Basics.{append-nil}
 
 abbrev pub reader : List Matcher → Stage → Reader
 reader ms stage = record { matchers = ms; stage = stage }
 
 abbrev pub start : Reader
 start = reader [] Open
-
-pub append-nil : {A : Type 0} (xs : List A) → xs ++ [] ≡ xs
-append-nil [] = refl
-append-nil (x ∷ xs) = ap (λ l. x ∷ l) (append-nil xs)
 
 and_then_both : (a b : List ℕ) (o : Option Reader) → ((r : Reader) → steps r (a ++ b) ≡ option_and_then (λ s. steps s b) (steps r a)) → option_and_then (λ s. steps s (a ++ b)) o ≡ option_and_then (λ s. steps s b) (option_and_then (λ s. steps s a) o)
 and_then_both a b None h = refl

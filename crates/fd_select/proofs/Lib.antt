@@ -1,3 +1,4 @@
+pub mod Basics
 pub mod Follows
 pub mod Leads
 pub mod Meetings

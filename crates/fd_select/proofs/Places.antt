@@ -1,6 +1,6 @@
 -- Where the reader stops, the text's longest prefix ends that some matchers in braces begin with.
-use Rattle.std.proofs.Common.{ℕ, ◌≡◌, ◌≢◌, ◌<◌, ◌≤◌, ◌+◌, List, [], ◌∷◌, ◌++◌, length, take, drop, get_or, Option, Some, None, refl, sym, ap, subst, ◌∙◌, arith, append_assoc, IsUtf8}
-use Rattle.std.specs.Option.{option_and_then, IfSome}
+use Rattle.std.proofs.Common.{ℕ, ◌≡◌, ◌≢◌, ◌<◌, ◌≤◌, ◌+◌, List, [], ◌∷◌, ◌++◌, length, take, drop, get_or, Some, None, refl, sym, ap, subst, ◌∙◌, arith, append_assoc, IsUtf8}
+use Rattle.std.specs.Option.{option_and_then}
 use Rattle.std.proofs.lemmas.List.{take_more, drop_more, take-append-drop, take-take, take_all, drop_all, get_or-take, length-take-le}
 use Rattle.std.proofs.lemmas.Str.{IsUtf8-append, IsUtf8-take, IsUtf8-nil, IsUtf8-from_ascii, IsCharBoundary-from_drop}
 use Rattle.std.proofs.lemmas.Str.Ascii.{IsAscii-cons, IsAscii-nil}
@@ -12,7 +12,8 @@ use Rattle.fd_select.specs.declared.reader.Reader.{Reader}
 use Rattle.fd_select.specs.SelectorTexts.{IsBraced}
 use Rattle.fd_select.specs.Braces.{BeginsBraces, IsStop}
 use Rattle.fd_select.specs.Machine.{matcher, step, steps, EndsText}
-use Rattle.fd_select.proofs.Leads.{append-nil, reader, start, steps-append, braced_leads}
+use Rattle.fd_select.proofs.Basics.{append-nil, through}
+use Rattle.fd_select.proofs.Leads.{reader, start, steps-append, braced_leads}
 use Rattle.fd_select.proofs.Follows.{braced_from_steps}
 use Rattle.fd_select.proofs.TextFits.{Fits, fits_step, fits_ends, fits_stopped}
 
@@ -88,10 +89,6 @@ refused text i n r h e lt le more ms b =
 
 pub read_first : (text : List ℕ) → IsUtf8 text → Read text 0 start
 read_first text u = record { led = refl; fits = u }
-
-through : {A : Type 0} (o : Option A) (P : A → Type 0) (x : A) → o ≡ Some x → IfSome o P → P x
-through None P x e h = cc
-through (Some y) P x e h = let s : y ≡ x = cc in subst P s h
 
 fits_here : (text : List ℕ) (i : ℕ) (r : Reader) → Read text i r → i < length text → Fits r.stage (get_or text i 0 ∷ drop (i + 1) text)
 fits_here text i r h l = subst (λ t. Fits r.stage t) (drop_more text i 0 l) h.fits

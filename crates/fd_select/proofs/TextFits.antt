@@ -1,5 +1,5 @@
 -- The names and values that the reader holds are text, and so is what it has still to read.
-use Rattle.std.proofs.Common.{ℕ, ◌≡◌, ◌<◌, Bool, true, false, cond, eqb, ◌||◌, List, [], ◌∷◌, ◌++◌, length, get_or, Option, Some, None, refl, sym, subst, arith, append_assoc, IsUtf8, length-append}
+use Rattle.std.proofs.Common.{ℕ, ◌≡◌, ◌<◌, Bool, true, false, eqb, ◌||◌, List, [], ◌∷◌, ◌++◌, length, get_or, Some, None, refl, sym, subst, arith, append_assoc, IsUtf8, length-append}
 use Rattle.std.specs.Option.{IfSome}
 use Rattle.std.proofs.lemmas.Bool.Decides.{nat_tests}
 use Rattle.std.proofs.lemmas.List.{get_or_at, take_at, drop_at}
@@ -11,6 +11,7 @@ use Rattle.fd_select.specs.declared.reader.Stage.{Stage}
 use Rattle.fd_select.specs.declared.reader.Stage.TheVariants.{Open, Name, Named, Bang, Operator, Quoted, Escaped, Matched, End}
 use Rattle.fd_select.specs.SelectorTexts.{is_name_start, is_name_byte}
 use Rattle.fd_select.specs.Machine.{step_at, behind_open, behind_name, in_name, behind_bang, behind_operator, in_quoted, behind_backslash, behind_matcher, EndsText}
+use Rattle.fd_select.proofs.Basics.{by_test}
 
 abbrev pub Fits : Stage → List ℕ → Type 0
 Fits Open rest = IsUtf8 rest
@@ -40,10 +41,6 @@ text_from xs ys b h u =
 
 text_behind : (b : ℕ) (ys : List ℕ) → b < 128 → IsUtf8 (b ∷ ys) → IsUtf8 ys
 text_behind b ys h u = IsUtf8-drop (b ∷ ys) 1 u (IsCharBoundary-after_ascii (b ∷ ys) 0 u (omega arith) h)
-
-by_test : {A : Type 0} (t : Bool) (x y : Option A) (P : A → Type 0) → (t ≡ true → IfSome x P) → (t ≡ false → IfSome y P) → IfSome (cond t x y) P
-by_test true x y P f g = f refl
-by_test false x y P f g = g refl
 
 small : (b n : ℕ) → eqb b n ≡ true → n < 128 → b < 128
 small b n e h = grind (arith, nat_tests)
