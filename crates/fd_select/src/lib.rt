@@ -1,0 +1,15 @@
+//! The texts of a query: selectors of rows, and times.
+#![tactic(auto)]
+
+mod braces;
+mod faults;
+mod kind;
+mod reader;
+mod reading;
+#[cfg(test)]
+mod tests;
+mod times;
+
+pub use faults::SelectFault;
+pub use reading::{selector, selector_laws};
+pub use times::{MomentFault, moment};
