@@ -1,4 +1,3 @@
-pub mod Digits
 pub mod HeaderSteps
 pub mod HeadLemmas
 pub mod RestLemmas

@@ -1,5 +1,5 @@
 -- What reading the next request answers and leaves.
-use Rattle.std.specs.Prelude.{ℕ, ◌≡◌, List, Option, Result, Ok, Err, ⊤}
+use Rattle.std.specs.Prelude.{ℕ, ◌≡◌, List, [], Option, Result, Ok, Err, ⊤}
 use Rattle.fd_device.specs.Causes.{Rose}
 use Rattle.fd_http.specs.declared.request.Arrived.{Arrived}
 use Rattle.fd_http.specs.declared.request.Arrived.TheVariants.{One, End}
@@ -11,7 +11,7 @@ use Rattle.fd_http.specs.Told.{IfTold}
 -- Each answer says what the rest held. Only a read fault and want of memory say nothing of it.
 abbrev pub Arrives : Option (List ℕ) → Option (List ℕ) → List ℕ → List ℕ → Result Arrived RequestFault → Type 0
 Arrives old new a b (Ok (One request)) = IfTold old new a b (λ rest after. Holds rest (one request after))
-Arrives old new a b (Ok End) = IfTold old new a b (λ rest after. Holds rest nothing)
+Arrives old new a b (Ok End) = IfTold old new a b (λ rest after. Holds rest nothing × (after ≡ []))
 Arrives old new a b (Err BadHead) = IfTold old new a b (λ rest after. Holds rest (refused BadHead))
 Arrives old new a b (Err NoLength) = IfTold old new a b (λ rest after. Holds rest (refused NoLength))
 Arrives old new a b (Err TooLarge) = IfTold old new a b (λ rest after. Holds rest (refused TooLarge))

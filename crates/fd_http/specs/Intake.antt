@@ -9,7 +9,7 @@ use Rattle.fd_http.specs.Told.{IfTold}
 -- the front that stands in the inbox, and what was read
 abbrev pub Fills : Option (List ℕ) → Option (List ℕ) → List ℕ → List ℕ → Result (Option ℕ) RequestFault → Type 0
 Fills old new a b (Ok (Some n)) = IfTold old new a b (λ rest after. rest ≡ after)
-Fills old new a b (Ok None) = IfTold old new a b (λ rest after. rest ≡ [])
+Fills old new a b (Ok None) = IfTold old new a b (λ rest after. (rest ≡ []) × (after ≡ []))
 Fills old new a b (Err Cut) = IfTold old new a b (λ rest after. CutInFront rest)
 Fills old new a b (Err BadHead) = IfTold old new a b (λ rest after. LongFront rest)
 Fills old new a b (Err NoLength) = ⊥

@@ -78,8 +78,8 @@ has_read_close old mid new a b c requests left request so_far some next close =
 pub has_read_end : (old mid new : Option (List ℕ)) (a b c : List ℕ) (requests : List Request) (left : ℕ) → HasRead old mid a b requests left → 0 < left
     → Arrives mid new b c (Ok NoMore) → HasSplit old new a c requests ended
 has_read_end old mid new a b c requests left so_far some next =
-    told_trans old mid new a b c (λ (rest after : List ℕ). Leads requests 100000 rest left after) (λ (rest after : List ℕ). Holds rest nothing) (λ (rest after : List ℕ). SplitsWithin requests 100000 rest ended) so_far next
-    (λ x y z leads holds. leads_end requests 100000 (a ++ x) left (b ++ y) ended leads (some, holds))
+    told_trans old mid new a b c (λ (rest after : List ℕ). Leads requests 100000 rest left after) (λ (rest after : List ℕ). Holds rest nothing × (after ≡ [])) (λ (rest after : List ℕ). SplitsWithin requests 100000 rest ended) so_far next
+    (λ x y z leads holds. leads_end requests 100000 (a ++ x) left (b ++ y) ended leads (some, holds.0))
 
 pub has_read_refused : (old mid new : Option (List ℕ)) (a b c : List ℕ) (requests : List Request) (left : ℕ) (fault : RequestFault) → HasRead old mid a b requests left → 0 < left
     → IfTold mid new b c (λ rest after. Holds rest (refused fault)) → HasSplit old new a c requests (refused_as fault)
