@@ -1,4 +1,4 @@
-ghost use Rattle.std.specs.Prelude.{◌≡◌, ◌-◌, ◌^◌, ◌<◌, min, length, sum_by, slice_get, IfOk, IfSome};
+ghost use Rattle.std.specs.Prelude.{◌≡◌, ◌-◌, ◌^◌, min, length, sum_by, slice_get, None, IfOk, MatchOption};
 ghost use Rattle.fd_kinds.specs.RowSize.{text_size};
 ghost use Rattle.fd_pprof.specs.Profile.{profile_from};
 
@@ -78,9 +78,9 @@ impl Survey {
     }
 
     /// The bytes of the frames of the sample at a place, each with four bytes more, and 2^64 - 1
-    /// where they are more.
+    /// where they are more; 0 where there is no such sample.
     pub fn stack_bytes(&self, at: usize) -> u64
-        ensures { IfSome (slice_get self.now.samples at) (λ s. result ≡ min (sum_by text_size s.stack) (2 ^ 64 - 1)) }
+        ensures { MatchOption (slice_get self.now.samples at) (result ≡ 0) (λ s. result ≡ min (sum_by text_size s.stack) (2 ^ 64 - 1)) }
     {
         match self.tables.indexed.raw.samples.get(at) {
             Some(raw) => stack_size(&self.tables, raw),
@@ -88,9 +88,9 @@ impl Survey {
         }
     }
 
-    /// The value of the sample at a place for a sample type.
+    /// The value of the sample at a place for the sample type `kind`, counted from 0.
     pub fn value(&self, at: usize, kind: usize) -> Option<i64>
-        ensures { IfSome (slice_get self.now.samples at) (λ s. result ≡ slice_get s.values kind) }
+        ensures { MatchOption (slice_get self.now.samples at) (result ≡ None) (λ s. result ≡ slice_get s.values kind) }
     {
         let sample = self.tables.indexed.raw.samples.get(at)?;
         let value = sample.values.get(kind)?;
