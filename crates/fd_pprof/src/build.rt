@@ -20,7 +20,7 @@ fn text(alloc: Global, texts: &Texts, at: u64) -> Result<Text, NoMemory>
     }
 }
 
-fn value_type(alloc: Global, texts: &Texts, raw: RawType) -> Result<ValueType, NoMemory>
+pub(crate) fn value_type(alloc: Global, texts: &Texts, raw: RawType) -> Result<ValueType, NoMemory>
     ensures { IfOk result (λ t. t ≡ value_type_of texts.now raw) }
 {
     Ok(ValueType {
@@ -29,7 +29,11 @@ fn value_type(alloc: Global, texts: &Texts, raw: RawType) -> Result<ValueType, N
     })
 }
 
-fn value_types(alloc: Global, texts: &Texts, raw: &[RawType]) -> Result<ValueTypes, NoMemory>
+pub(crate) fn value_types(
+    alloc: Global,
+    texts: &Texts,
+    raw: &[RawType],
+) -> Result<ValueTypes, NoMemory>
     ensures { IfOk result (λ types. types ≡ map (value_type_of texts.now) raw.now) }
 {
     let mut all = Items::new(alloc);
@@ -69,7 +73,7 @@ fn labels(alloc: Global, texts: &Texts, raw: &[RawLabel]) -> Result<Labels, NoMe
     Labels::from_pairs(pairs)
 }
 
-fn sample(alloc: Global, tables: &Tables, raw: &RawSample) -> Result<Sample, NoMemory>
+pub(crate) fn sample(alloc: Global, tables: &Tables, raw: &RawSample) -> Result<Sample, NoMemory>
     ensures { IfOk result (λ s. s ≡ sample_of tables.now.texts tables.now.indexed.raw raw.now) }
 {
     let texts = &tables.texts;

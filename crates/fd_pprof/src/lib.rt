@@ -10,6 +10,7 @@ mod indexed;
 mod profile;
 mod reading;
 mod sizes;
+mod surveyed;
 mod tables;
 #[cfg(test)]
 mod tests;
@@ -17,4 +18,5 @@ mod texts;
 
 pub use fault::ProfileFault;
 pub use profile::{Profile, Sample, Samples, ValueType, ValueTypes, Wholes};
-pub use reading::read_profile;
+pub use reading::{read_profile, survey};
+pub use surveyed::Survey;

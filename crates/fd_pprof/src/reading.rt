@@ -4,14 +4,13 @@ ghost use Rattle.fd_pprof.specs.Conditions.{texts};
 ghost use Rattle.fd_pprof.specs.Profile.{is_compressed, messages_refusal, profile_refusal, profile_of};
 ghost use Rattle.fd_pprof.specs.declared.fault.ProfileFault.TheVariants.{NoMemory};
 
-use crate::build::profile;
 use crate::checks::plain_refusal;
 use crate::fault::of_messages;
 use crate::indexed::Indexed;
 use crate::sizes::has_deep_stack;
 use crate::tables::Tables;
 use crate::texts::{has_long_text, texts_of};
-use crate::{Profile, ProfileFault};
+use crate::{Profile, ProfileFault, Survey};
 use fd_proto::{Raw, read};
 use std::alloc::Global;
 
@@ -49,9 +48,9 @@ fn tables_of(alloc: Global, bytes: &[u8], raw: Raw) -> Result<Tables, ProfileFau
 
 #[tactic(auto, unfolding(crate::specs::Profile::profile_refusal, crate::specs::Profile::profile_of))]
 /// The profile that the bytes spell, by pprof's `profile.proto` in the wire format of Protocol
-/// Buffers, uncompressed.
-pub fn read_profile(alloc: Global, bytes: &[u8]) -> Result<Profile, ProfileFault>
-    ensures ok { IfOk result (λ p. (profile_refusal bytes.now ≡ None) × (p ≡ profile_of bytes.now)) }
+/// Buffers, uncompressed. Nothing of it is built yet.
+pub fn survey(alloc: Global, bytes: &[u8]) -> Result<Survey, ProfileFault>
+    ensures ok { IfOk result (λ s. (profile_refusal bytes.now ≡ None) × (s ≡ profile_of bytes.now)) }
     ensures err { IfErr result (λ e. e ≢ NoMemory → profile_refusal bytes.now ≡ Some e) }
 {
     if is_compressed(bytes) {
@@ -62,5 +61,15 @@ pub fn read_profile(alloc: Global, bytes: &[u8]) -> Result<Profile, ProfileFault
         Err(fault) => return Err(of_messages(fault)),
     };
     let tables = tables_of(alloc, bytes, raw)?;
-    Ok(profile(alloc, &tables)?)
+    Ok(Survey::of(tables))
+}
+
+/// The profile that the bytes spell, by pprof's `profile.proto` in the wire format of Protocol
+/// Buffers, uncompressed.
+pub fn read_profile(alloc: Global, bytes: &[u8]) -> Result<Profile, ProfileFault>
+    ensures ok { IfOk result (λ p. (profile_refusal bytes.now ≡ None) × (p ≡ profile_of bytes.now)) }
+    ensures err { IfErr result (λ e. e ≢ NoMemory → profile_refusal bytes.now ≡ Some e) }
+{
+    let survey = survey(alloc, bytes)?;
+    Ok(survey.profile(alloc)?)
 }

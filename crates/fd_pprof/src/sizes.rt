@@ -65,7 +65,7 @@ fn size_at(tables: &Tables, id: u64) -> u64
 
 #[tactic(auto, using(crate::proofs::SizeSteps::size_steps))]
 /// The bytes of the frames of a sample.
-fn stack_size(tables: &Tables, sample: &RawSample) -> u64
+pub(crate) fn stack_size(tables: &Tables, sample: &RawSample) -> u64
     ensures { result ≡ frames_size (stack tables.now.texts tables.now.indexed.raw sample.now) }
 {
     let mut size: u64 = 0;

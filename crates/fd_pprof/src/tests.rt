@@ -1,4 +1,4 @@
-use crate::{Profile, Sample, ValueType, read_profile};
+use crate::{Profile, Sample, ValueType, read_profile, survey};
 use fd_kinds::{Bytes, Items, NoMemory};
 use std::alloc::Global;
 use std::test::Fail;
@@ -125,6 +125,43 @@ fn repeated_numbers_are_packed_or_not(rt: HostRuntime) -> Result<(), Fail> {
         sampled(alloc, &location_three, &two_values)?.as_str(),
         "ValueCount"
     );
+    Ok(())
+}
+
+/// Whether the survey of the profile tells what its samples take.
+fn tells_sizes(alloc: Global) -> Result<bool, Fail> {
+    let bytes = joined(
+        alloc,
+        &[
+            &TYPES, &FIRST, &SECOND, &LOCATIONS, &FUNCTIONS, &TEXTS, &REST,
+        ],
+    )?;
+    let Ok(survey) = survey(alloc, bytes.as_slice()) else {
+        return Ok(false);
+    };
+    let types = survey.sample_types(alloc)?;
+    let period_type = survey.period_type(alloc)?;
+    let Some(second) = survey.sample(alloc, 1)? else {
+        return Ok(false);
+    };
+    Ok(
+        survey.len() == 2
+            && survey.stack_bytes(0) == 8
+            && survey.stack_bytes(1) == 16
+            && survey.value(1, 0) == Some(20)
+            && survey.value(1, 1).is_none()
+            && types.len() == 1
+            && period_type.unit.as_str() == "nanoseconds"
+            && second.stack.len() == 2
+            && survey.period() == 10_000_000
+            && survey.time_nanos() == 1_000_000_000
+            && survey.duration_nanos() == 0,
+    )
+}
+
+#[test]
+fn a_survey_tells_sizes(rt: HostRuntime) -> Result<(), Fail> {
+    assert!(rt; tells_sizes(rt.alloc())?);
     Ok(())
 }
 
