@@ -1,0 +1,102 @@
+ghost use Rattle.std.specs.Prelude.{◌≡◌, ◌≢◌, true, [], ◌∷◌, ◌++◌, IfOk, IfErr};
+ghost use Rattle.fd_rows.specs.Rows.{row_of, value_rows, sample_rows, profile_rows};
+ghost use Rattle.fd_rows.specs.Body.{is_large};
+
+use crate::gathered::{Gathered, LIMIT};
+use crate::series::Series;
+use crate::stop::Stop;
+use fd_kinds::{NoMemory, Row, Share, row_bytes};
+use fd_pprof::{Profile, Sample, ValueType};
+
+fn row(
+    series: &Series,
+    profile: &Profile,
+    sample: &Sample,
+    kind: &ValueType,
+    value: i64,
+) -> Result<Row, NoMemory>
+    ensures { IfOk result (λ row. row ≡ row_of series.now profile.now sample.now kind.now value) }
+{
+    Ok(Row {
+        name: series.name.share()?,
+        sample_type: kind.kind.share()?,
+        sample_unit: kind.unit.share()?,
+        period_type: profile.period_type.kind.share()?,
+        period_unit: profile.period_type.unit.share()?,
+        labels: series.labels.share()?,
+        timestamp: profile.time_nanos.div_euclid(1_000_000),
+        stack: sample.stack.share()?,
+        pprof_labels: sample.labels.share()?,
+        period: profile.period,
+        duration: profile.duration_nanos,
+        value,
+    })
+}
+
+/// Adds a row, where the rows are within the limit with it.
+fn with_row(rows: Gathered, row: Row) -> Result<Gathered, Stop>
+    ensures ok { IfOk result (λ more. more.rows ≡ rows.rows ++ row ∷ []) }
+    ensures err { IfErr result (λ e. e ≢ Stop.NoMemory → is_large (rows.rows ++ row ∷ []) ≡ true) }
+{
+    let Gathered { mut rows, bytes } = rows;
+    let bytes = bytes.saturating_add(row_bytes(&row));
+    if bytes > LIMIT {
+        return Err(Stop::Large);
+    }
+    rows.push(row)?;
+    Ok(Gathered { rows, bytes })
+}
+
+/// Adds the row of a value, which for 0 is none.
+fn with_value(
+    rows: Gathered,
+    series: &Series,
+    profile: &Profile,
+    sample: &Sample,
+    kind: &ValueType,
+    value: i64,
+) -> Result<Gathered, Stop>
+    ensures ok { IfOk result (λ more. more.rows ≡ rows.rows ++ value_rows series.now profile.now sample.now (kind.now, value)) }
+    ensures err { IfErr result (λ e. e ≢ Stop.NoMemory → is_large (rows.rows ++ value_rows series.now profile.now sample.now (kind.now, value)) ≡ true) }
+{
+    if value == 0 {
+        return Ok(rows);
+    }
+    with_row(rows, row(series, profile, sample, kind, value)?)
+}
+
+/// Adds the rows of a sample.
+fn with_sample(
+    rows: Gathered,
+    series: &Series,
+    profile: &Profile,
+    sample: &Sample,
+) -> Result<Gathered, Stop>
+    ensures ok { IfOk result (λ more. more.rows ≡ rows.rows ++ sample_rows series.now profile.now sample.now) }
+    ensures err { IfErr result (λ e. e ≢ Stop.NoMemory → is_large (rows.rows ++ sample_rows series.now profile.now sample.now) ≡ true) }
+{
+    let mut more = rows;
+    for (i, kind) in profile.sample_types.as_slice().iter().enumerate() {
+        match sample.values.get(i) {
+            Some(value) => more = with_value(more, series, profile, sample, kind, *value)?,
+            None => return Ok(more),
+        }
+    }
+    Ok(more)
+}
+
+/// Adds the rows of a profile.
+pub(crate) fn with_profile(
+    rows: Gathered,
+    series: &Series,
+    profile: &Profile,
+) -> Result<Gathered, Stop>
+    ensures ok { IfOk result (λ more. more.rows ≡ rows.rows ++ profile_rows series.now profile.now) }
+    ensures err { IfErr result (λ e. e ≢ Stop.NoMemory → is_large (rows.rows ++ profile_rows series.now profile.now) ≡ true) }
+{
+    let mut more = rows;
+    for sample in profile.samples.as_slice() {
+        more = with_sample(more, series, profile, sample)?;
+    }
+    Ok(more)
+}
