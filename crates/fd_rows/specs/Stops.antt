@@ -1,7 +1,5 @@
--- What a fault within a series says of the body.
-use Rattle.std.specs.Prelude.{◌≡◌, ℕ}
-use Rattle.fd_pprof.specs.declared.fault.ProfileFault.{ProfileFault}
-use Rattle.fd_pprof.specs.declared.fault.ProfileFault.TheVariants as profile
+-- What a stop at a profile says of the body.
+use Rattle.std.specs.Prelude.{ℕ}
 use Rattle.fd_rows.specs.declared.faults.BatchFault.{BatchFault}
 use Rattle.fd_rows.specs.declared.faults.BatchFault.TheVariants as fault
 use Rattle.fd_rows.specs.declared.stop.Stop.{Stop}
@@ -11,8 +9,3 @@ use Rattle.fd_rows.specs.declared.stop.Stop.TheVariants as stop
 abbrev pub stopped : ℕ → ℕ → Stop → BatchFault
 stopped series sample stop.Large = fault.Large series sample
 stopped series sample stop.NoMemory = fault.NoMemory
-
--- a profile that is not read
-abbrev pub unread : ℕ → ℕ → ProfileFault → BatchFault
-unread series sample profile.NoMemory = fault.NoMemory
-unread series sample other = fault.Profile series sample other

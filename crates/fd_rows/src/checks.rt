@@ -1,4 +1,5 @@
 ghost use Rattle.std.specs.Prelude.{◌≡◌, ◌≢◌, ℕ, List, [], ◌∷◌, ◌++◌, not, filter, None, Some, IfOk, IfErr};
+ghost use Rattle.std.specs.List.{list_all};
 ghost use Rattle.std.specs.Option.{option_or, option_map};
 ghost use Rattle.std.specs.BTreeSet.{contains};
 ghost use Rattle.fd_kinds.specs.declared.kinds.Pair.{Pair};
@@ -25,13 +26,19 @@ fn is_name_byte(byte: u8) -> bool
     is_name_start(byte) || byte.is_ascii_digit()
 }
 
+fn are_name_bytes(bytes: &[u8]) -> bool
+    ensures { result ≡ list_all is_name_byte bytes.now }
+{
+    bytes.iter().all(|b| is_name_byte(*b))
+}
+
 /// A letter or `_`, followed by letters, digits and `_`.
 fn is_label_name(name: &[u8]) -> bool
     ensures { result ≡ is_label_name name.now }
 {
     match name {
         [] => false,
-        [first, rest @ ..] => is_name_start(*first) && rest.iter().all(|b| is_name_byte(*b)),
+        [first, rest @ ..] => is_name_start(*first) && are_name_bytes(rest),
     }
 }
 
@@ -73,6 +80,7 @@ fn label_fault(seen: &mut BTreeSet<Text>, pair: &Pair) -> Result<Option<LabelFau
     }
 }
 
+#[tactic(auto, using(crate::proofs::Seen::label_steps))]
 /// Tests the labels of a series in their order.
 fn check_labels(alloc: Global, series: u64, pairs: &Pairs) -> Result<(), BatchFault>
     ensures ok { IfOk result (λ _. labels_refusal series [] pairs.now ≡ None) }
@@ -123,6 +131,7 @@ fn others(alloc: Global, pairs: &Pairs) -> Result<Pairs, NoMemory>
     Ok(kept)
 }
 
+#[tactic(auto, unfolding(crate::specs::Rows::series_of))]
 /// The name and the labels of a series, tested.
 pub(crate) fn checked(alloc: Global, at: u64, pairs: &Pairs) -> Result<Series, BatchFault>
     ensures labels { IfOk result (λ _. labels_refusal at [] pairs.now ≡ None) }

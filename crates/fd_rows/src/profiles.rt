@@ -2,7 +2,7 @@ ghost use Rattle.std.specs.Prelude.{◌≡◌, ◌≢◌, ◌++◌, None, Some, 
 ghost use Rattle.std.specs.List.{flat_map};
 ghost use Rattle.fd_rows.specs.Rows.{message_rows};
 ghost use Rattle.fd_rows.specs.Body.{message_refusal, messages_refusal};
-ghost use Rattle.fd_rows.specs.Stops.{stopped, unread};
+ghost use Rattle.fd_rows.specs.Stops.{stopped};
 
 use crate::BatchFault;
 use crate::gathered::Gathered;
@@ -23,7 +23,8 @@ fn stopped(series: u64, sample: u64, stop: Stop) -> BatchFault
 }
 
 fn unread(series: u64, sample: u64, fault: ProfileFault) -> BatchFault
-    ensures { result ≡ unread series sample fault }
+    ensures memory { fault ≡ ProfileFault.NoMemory → result ≡ BatchFault.NoMemory }
+    ensures other { fault ≢ ProfileFault.NoMemory → result ≡ BatchFault.Profile series sample fault }
 {
     match fault {
         ProfileFault::NoMemory => BatchFault::NoMemory,

@@ -1,4 +1,5 @@
-ghost use Rattle.std.specs.Prelude.{◌≡◌, ◌≢◌, true, [], ◌∷◌, ◌++◌, IfOk, IfErr};
+ghost use Rattle.std.specs.Prelude.{◌≡◌, ◌≢◌, true, [], ◌∷◌, ◌++◌, drop, IfOk, IfErr};
+ghost use Rattle.std.specs.List.{flat_map, zip};
 ghost use Rattle.fd_rows.specs.Rows.{row_of, value_rows, sample_rows, profile_rows};
 ghost use Rattle.fd_rows.specs.Body.{is_large};
 
@@ -33,6 +34,7 @@ fn row(
     })
 }
 
+#[tactic(auto, using(crate::proofs::Gathering::pushed_large))]
 /// Adds a row, where the rows are within the limit with it.
 fn with_row(rows: Gathered, row: Row) -> Result<Gathered, Stop>
     ensures ok { IfOk result (λ more. more.rows ≡ rows.rows ++ row ∷ []) }
@@ -47,6 +49,7 @@ fn with_row(rows: Gathered, row: Row) -> Result<Gathered, Stop>
     Ok(Gathered { rows, bytes })
 }
 
+#[tactic(auto, unfolding(crate::specs::Rows::value_rows))]
 /// Adds the row of a value, which for 0 is none.
 fn with_value(
     rows: Gathered,
@@ -65,6 +68,25 @@ fn with_value(
     with_row(rows, row(series, profile, sample, kind, value)?)
 }
 
+/// Adds the row of the value at the place `at`, which is of the sample type `kind`.
+fn with_kind(
+    rows: Gathered,
+    series: &Series,
+    profile: &Profile,
+    sample: &Sample,
+    kind: &ValueType,
+    at: usize,
+) -> Result<Gathered, Stop>
+    ensures ok { IfOk result (λ more. more.rows ≡ rows.rows ++ flat_map (value_rows series.now profile.now sample.now) (zip (kind.now ∷ []) (drop at sample.now.values))) }
+    ensures err { IfErr result (λ e. e ≢ Stop.NoMemory → is_large (rows.rows ++ flat_map (value_rows series.now profile.now sample.now) (zip (kind.now ∷ []) (drop at sample.now.values))) ≡ true) }
+{
+    match sample.values.get(at) {
+        Some(value) => with_value(rows, series, profile, sample, kind, *value),
+        None => Ok(rows),
+    }
+}
+
+#[tactic(auto, unfolding(crate::specs::Rows::sample_rows))]
 /// Adds the rows of a sample.
 fn with_sample(
     rows: Gathered,
@@ -77,14 +99,12 @@ fn with_sample(
 {
     let mut more = rows;
     for (i, kind) in profile.sample_types.as_slice().iter().enumerate() {
-        match sample.values.get(i) {
-            Some(value) => more = with_value(more, series, profile, sample, kind, *value)?,
-            None => return Ok(more),
-        }
+        more = with_kind(more, series, profile, sample, kind, i)?;
     }
     Ok(more)
 }
 
+#[tactic(auto, unfolding(crate::specs::Rows::profile_rows))]
 /// Adds the rows of a profile.
 pub(crate) fn with_profile(
     rows: Gathered,
