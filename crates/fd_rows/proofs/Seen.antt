@@ -1,5 +1,5 @@
 -- The names that are seen, and the labels that are tested so far.
-use Rattle.std.proofs.Common.{◌≡◌, ℕ, ◌+◌, ◌<◌, Bool, true, false, cond, List, [], ◌∷◌, ◌++◌, length, get_or, take, drop, drop-cons, length-take-le, add-one, refl, sym, ap, ◌∙◌, arith}
+use Rattle.std.proofs.Common.{◌≡◌, ℕ, suc, ◌+◌, ◌<◌, Bool, true, false, cond, List, [], ◌∷◌, ◌++◌, length, get_or, take, drop, drop-cons, length-take-le, refl, sym, ap, ◌∙◌, arith}
 use Rattle.std.specs.Prelude.{◌||◌}
 use Rattle.std.specs.Option.{option_or, option_map}
 use Rattle.std.specs.Ordering.{is_eq}
@@ -35,7 +35,8 @@ seen_more m n earlier p key same before puts q =
 pub label_step : (series : ℕ) (pairs : List Pair) (i : ℕ) (p : Pair) → i < length pairs → p ≡ get_or pairs i p
     → labels_refusal series (take i pairs) (drop i pairs) ≡ option_or (option_map (fault.Label series i) (label_refusal (take i pairs) p)) (labels_refusal series (take (i + 1) pairs) (drop (i + 1) pairs))
 label_step series pairs i p within here =
-    let dropped : drop i pairs ≡ p ∷ drop (i + 1) pairs = drop-cons pairs i p within ∙ ap (λ x. x ∷ drop (i + 1) pairs) (sym here) in
+    let s : suc i ≡ i + 1 = omega arith in
+    let dropped : drop i pairs ≡ p ∷ drop (i + 1) pairs = drop-cons pairs i p within ∙ ap (λ k. get_or pairs i p ∷ drop k pairs) s ∙ ap (λ x. x ∷ drop (i + 1) pairs) (sym here) in
     let taken : take i pairs ++ p ∷ [] ≡ take (i + 1) pairs = sym (take_more pairs i p within ∙ ap (λ x. take i pairs ++ x ∷ []) (sym here)) in
     ap (labels_refusal series (take i pairs)) dropped
     ∙ ap (λ k. option_or (option_map (fault.Label series k) (label_refusal (take i pairs) p)) (labels_refusal series (take i pairs ++ p ∷ []) (drop (i + 1) pairs))) (length-take-le i pairs (omega arith))

@@ -48,5 +48,6 @@ pub fn batch(alloc: Global, body: &RawBody) -> Result<Batch, BatchFault>
     for (i, series) in body.series.as_slice().iter().enumerate() {
         rows = with_series(alloc, rows, i as u64, series)?;
     }
-    Ok(Batch::of(rows.rows)?)
+    let batch = Batch::of(rows.rows)?;
+    Ok(batch)
 }

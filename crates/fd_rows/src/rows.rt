@@ -57,11 +57,12 @@ fn with_value(
     profile: &Profile,
     sample: &Sample,
     kind: &ValueType,
-    value: i64,
+    value: &i64,
 ) -> Result<Gathered, Stop>
-    ensures ok { IfOk result (λ more. more.rows ≡ rows.rows ++ value_rows series.now profile.now sample.now (kind.now, value)) }
-    ensures err { IfErr result (λ e. e ≢ Stop.NoMemory → is_large (rows.rows ++ value_rows series.now profile.now sample.now (kind.now, value)) ≡ true) }
+    ensures ok { IfOk result (λ more. more.rows ≡ rows.rows ++ value_rows series.now profile.now sample.now (kind.now, value.now)) }
+    ensures err { IfErr result (λ e. e ≢ Stop.NoMemory → is_large (rows.rows ++ value_rows series.now profile.now sample.now (kind.now, value.now)) ≡ true) }
 {
+    let value = *value;
     if value == 0 {
         return Ok(rows);
     }
@@ -81,7 +82,7 @@ fn with_kind(
     ensures err { IfErr result (λ e. e ≢ Stop.NoMemory → is_large (rows.rows ++ flat_map (value_rows series.now profile.now sample.now) (zip (kind.now ∷ []) (drop at sample.now.values))) ≡ true) }
 {
     match sample.values.get(at) {
-        Some(value) => with_value(rows, series, profile, sample, kind, *value),
+        Some(value) => with_value(rows, series, profile, sample, kind, value),
         None => Ok(rows),
     }
 }
