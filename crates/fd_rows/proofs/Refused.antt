@@ -1,0 +1,85 @@
+-- Where a body is refused, and where it is not.
+use Rattle.std.proofs.Common.{◌≡◌, ◌≢◌, ℕ, ◌+◌, ◌<◌, ◌≤◌, true, false, cond, List, [], ◌∷◌, ◌++◌, length, get_or, drop, refl, sym, ap, ◌∙◌, subst, arith, Option, Some, None}
+use Rattle.std.specs.Prelude.{sum_by, IsPermutation}
+use Rattle.std.specs.Option.{option_or, option_map}
+use Rattle.std.specs.List.{flat_map}
+use Rattle.std.proofs.lemmas.List.{drop_all, append-nil}
+use Rattle.std.proofs.lemmas.List.Sorted.{sum_by-IsPermutation}
+use Rattle.fd_kinds.specs.declared.row.Row.{Row}
+use Rattle.fd_kinds.specs.declared.raw.RawSeries.{RawSeries}
+use Rattle.fd_kinds.specs.declared.raw.RawBody.{RawBody}
+use Rattle.fd_kinds.specs.RowSize.{row_size}
+use Rattle.fd_pprof.specs.declared.profile.Profile.{Profile}
+use Rattle.fd_pprof.specs.Profile.{profile_of, profile_refusal}
+use Rattle.fd_rows.specs.declared.series.Series.{Series}
+use Rattle.fd_rows.specs.declared.stop.Stop.{Stop}
+use Rattle.fd_rows.specs.declared.stop.Stop.TheVariants as stop
+use Rattle.fd_rows.specs.declared.faults.BatchFault.{BatchFault}
+use Rattle.fd_rows.specs.declared.faults.BatchFault.TheVariants as fault
+use Rattle.fd_rows.specs.Stops.{stopped}
+use Rattle.fd_rows.specs.Rows.{series_of, profile_rows, message_rows, series_rows, body_rows}
+use Rattle.fd_rows.specs.Body.{is_large, labels_refusal, name_refusal, message_refusal, messages_refusal, series_refusal, all_refusal, body_refusal}
+use Rattle.fd_rows.proofs.Gathering.{not_large, from_place}
+
+-- what is known of a message whose profile is read
+pub same_rows : (of : Series) (bytes : List ℕ) (profile : Profile) → profile ≡ profile_of bytes → profile_rows of profile ≡ message_rows of bytes
+unfolding message_rows
+same_rows of bytes profile is = ap (profile_rows of) is
+
+pub message_fine : (series : ℕ) (of : Series) (at : ℕ) (before more : List Row) (bytes : List ℕ) (size : ℕ) → profile_refusal bytes ≡ None
+    → more ≡ before ++ message_rows of bytes → size ≡ sum_by row_size more → size ≤ 134217728 → message_refusal series of at before bytes ≡ None
+message_fine series of at before more bytes size none is counted small =
+    let fine : is_large (before ++ message_rows of bytes) ≡ false = subst (λ rows. is_large rows ≡ false) is (not_large more size counted small) in
+    ap (λ o. option_or (option_map (fault.Profile series at) o) (cond (is_large (before ++ message_rows of bytes)) (Some (fault.Large series at)) None)) none
+    ∙ ap (λ b. cond b (Some (fault.Large series at)) None) fine
+
+pub message_stopped : (series : ℕ) (of : Series) (at : ℕ) (before : List Row) (bytes : List ℕ) (s : Stop) (e : BatchFault) → e ≡ stopped series at s → profile_refusal bytes ≡ None
+    → (s ≢ stop.NoMemory → is_large (before ++ message_rows of bytes) ≡ true) → e ≢ fault.NoMemory → message_refusal series of at before bytes ≡ Some e
+message_stopped series of at before bytes stop.Large e is none large free =
+    ap (λ o. option_or (option_map (fault.Profile series at) o) (cond (is_large (before ++ message_rows of bytes)) (Some (fault.Large series at)) None)) none
+    ∙ ap (λ b. cond b (Some (fault.Large series at)) None) (large (λ h. cc))
+    ∙ ap Some (sym is)
+message_stopped series of at before bytes stop.NoMemory e is none large free = absurd (free is)
+
+first_part : {X : Type 0} (a b c : Option X) (e : X) → option_or a b ≡ Some e → option_or a (option_or b c) ≡ Some e
+first_part (Some x) b c e h = h
+first_part None (Some x) c e h = h
+first_part None None c e h = cc
+
+pub series_first : (at : ℕ) (before : List Row) (s : RawSeries) (e : BatchFault) → option_or (labels_refusal at [] s.labels) (name_refusal at s.labels) ≡ Some e → series_refusal at before s ≡ Some e
+unfolding series_refusal
+series_first at before s e h = first_part (labels_refusal at [] s.labels) (name_refusal at s.labels) (messages_refusal at (series_of s.labels) 0 before s.profiles) e h
+
+pub series_after : (at : ℕ) (before : List Row) (s : RawSeries) (of : Series) → labels_refusal at [] s.labels ≡ None → name_refusal at s.labels ≡ None → of ≡ series_of s.labels
+    → series_refusal at before s ≡ messages_refusal at of 0 before s.profiles
+unfolding series_refusal
+series_after at before s of labels name is =
+    ap (λ o. option_or o (option_or (name_refusal at s.labels) (messages_refusal at (series_of s.labels) 0 before s.profiles))) labels
+    ∙ ap (λ o. option_or o (messages_refusal at (series_of s.labels) 0 before s.profiles)) name
+    ∙ ap (λ x. messages_refusal at x 0 before s.profiles) (sym is)
+
+pub series_same : (s : RawSeries) (of : Series) → of ≡ series_of s.labels → flat_map (message_rows of) s.profiles ≡ series_rows s
+unfolding series_rows
+series_same s of is = ap (λ x. flat_map (message_rows x) s.profiles) is
+
+pub body_refused : (body : RawBody) (items : List RawSeries) (rows : List Row) (i : ℕ) (s : RawSeries) (e : BatchFault) → items ≡ body.series → i < length items → s ≡ get_or items i s
+    → all_refusal i rows (drop i body.series) ≡ all_refusal 0 [] body.series → series_refusal i rows s ≡ Some e → body_refusal body ≡ Some e
+unfolding body_refusal
+body_refused body items rows i s e same within here rest refused =
+    sym rest
+    ∙ ap (all_refusal i rows) (from_place body.series items i s same within here)
+    ∙ ap (λ o. option_or o (all_refusal (i + 1) (rows ++ series_rows s) (drop (i + 1) body.series))) refused
+
+pub body_done : (body : RawBody) (items : List RawSeries) (rows batch : List Row) (i : ℕ) → items ≡ body.series → length items ≤ i
+    → rows ++ flat_map series_rows (drop i body.series) ≡ flat_map series_rows body.series → all_refusal i rows (drop i body.series) ≡ all_refusal 0 [] body.series
+    → IsPermutation rows batch → (body_refusal body ≡ None) × IsPermutation (body_rows body) batch
+unfolding body_refusal body_rows
+body_done body items rows batch i same past gathered rest sorted =
+    let past_all : length body.series ≤ i = omega (arith, ap length same) in
+    let end : drop i body.series ≡ [] = drop_all i body.series past_all in
+    let all : rows ≡ flat_map series_rows body.series = sym (ap (λ xs. rows ++ flat_map series_rows xs) end ∙ append-nil rows) ∙ gathered in
+    (sym rest ∙ ap (all_refusal i rows) end, subst (λ xs. IsPermutation xs batch) all sorted)
+
+pub batch_small : (rows batch : List Row) (size : ℕ) → size ≡ sum_by row_size rows → size ≤ 134217728 → IsPermutation rows batch → sum_by row_size batch ≤ 134217728
+batch_small rows batch size counted small sorted =
+    subst (λ n. n ≤ 134217728) (counted ∙ sym (sum_by-IsPermutation row_size rows batch sorted)) small

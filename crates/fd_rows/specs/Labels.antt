@@ -1,0 +1,49 @@
+-- The labels of a series, and why one of them is refused.
+use Rattle.std.specs.Prelude.{ℕ, Bool, false, not, ◌&&◌, ◌||◌, ◌==◌, ◌+◌, List, [], ◌∷◌, ◌++◌, Option, Some, None, length, nat_lt, if◌then◌else◌, codes, bytes_eq}
+use Rattle.std.specs.List.{list_all, list_any}
+use Rattle.std.specs.Char.{is_ascii_alphabetic, is_ascii_digit}
+use Rattle.std.specs.Ordering.{is_eq}
+use Rattle.std.specs.Option.{option_or}
+use Rattle.fd_kinds.specs.declared.kinds.Pair.{Pair}
+use Rattle.fd_kinds.specs.Pairs.{text_cmp}
+use Rattle.fd_rows.specs.declared.faults.LabelFault.{LabelFault}
+use Rattle.fd_rows.specs.declared.faults.LabelFault.TheVariants.{BadLabelName, LongValue, RepeatedLabel}
+
+abbrev pub is_name_start : ℕ → Bool
+is_name_start b = is_ascii_alphabetic b || b == 95
+
+abbrev pub is_name_byte : ℕ → Bool
+is_name_byte b = is_name_start b || is_ascii_digit b
+
+-- a letter or `_`, and then letters, digits and `_`, all ASCII
+abbrev pub is_label_name : List ℕ → Bool
+is_label_name [] = false
+is_label_name (b ∷ bs) = is_name_start b && list_all is_name_byte bs
+
+-- more bytes than a name or a value may have
+abbrev pub is_long : List ℕ → Bool
+is_long text = nat_lt 4096 (length text)
+
+-- some of the labels has the name
+abbrev pub has_label : List Pair → List ℕ → Bool
+has_label labels name = list_any (λ p. is_eq (text_cmp name p.name)) labels
+
+-- why a label is refused for its name or value alone
+abbrev pub own_refusal : Pair → Option LabelFault
+own_refusal p =
+    if not (is_label_name p.name) then Some BadLabelName
+    else if is_long p.name || is_long p.value then Some LongValue
+    else None
+
+-- why a label is refused that stands behind the labels `earlier`
+abbrev pub label_refusal : List Pair → Pair → Option LabelFault
+label_refusal earlier p = option_or (own_refusal p) (if has_label earlier p.name then Some RepeatedLabel else None)
+
+-- the label that names a series
+abbrev pub is_name : Pair → Bool
+is_name p = bytes_eq p.name (codes "__name__")
+
+-- the value of the label `__name__`, and empty where there is none
+abbrev pub series_name : List Pair → List ℕ
+series_name [] = []
+series_name (p ∷ ps) = if is_name p then p.value else series_name ps

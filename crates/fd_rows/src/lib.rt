@@ -1,0 +1,14 @@
+//! The rows of a write body: one batch, or the first fault of the body.
+#![tactic(auto)]
+
+mod body;
+mod checks;
+mod faults;
+mod gathered;
+mod profiles;
+mod rows;
+mod series;
+mod stop;
+
+pub use body::batch;
+pub use faults::{BatchFault, LabelFault};
