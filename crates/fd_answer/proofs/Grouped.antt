@@ -9,6 +9,7 @@ use Rattle.std.specs.Cmp.Lexicographic.{lists_total, nat_list_cmp_total}
 use Rattle.std.specs.FinMap.{find, is_sorted, slice_cmp-IsAntisymmetric, nat_cmp-IsAntisymmetric}
 use Rattle.std.specs.FinMap.Entries.{same_entries, below_all}
 use Rattle.std.proofs.lemmas.Bool.{and_from}
+use Rattle.std.proofs.Math.IntN.{+ℤ_assoc, +ℤ_idl, +ℤ_idr}
 use Rattle.std.specs.List.{list_any, AllByRecursion}
 use Rattle.std.specs.List.Sorted.{IsStrictlySortedBy}
 use Rattle.std.specs.Map.{lookup, keys_of}
@@ -32,26 +33,17 @@ stack_cmp_exact = slice_cmp-IsAntisymmetric (slice_cmp-IsAntisymmetric nat_cmp-I
 
 -- ---- one more row
 
-add_assoc_int : (a b c : ℤ) → a +ℤ (b +ℤ c) ≡ (a +ℤ b) +ℤ c
-add_assoc_int a b c = omega arith
-
-zero_plus : (a : ℤ) → pos 0 +ℤ a ≡ a
-zero_plus a = omega arith
-
-plus_zero : (a b : ℤ) → a +ℤ (b +ℤ pos 0) ≡ a +ℤ b
-plus_zero a b = omega arith
-
 pub value_sum-push : (rows : List Row) (row : Row) → value_sum (rows ++ row ∷ []) ≡ value_sum rows +ℤ row.value
-value_sum-push [] row = omega arith
-value_sum-push (r ∷ rs) row = ap (λ n. r.value +ℤ n) (value_sum-push rs row) ∙ add_assoc_int r.value (value_sum rs) row.value
+value_sum-push [] row = +ℤ_idr row.value ∙ sym (+ℤ_idl row.value)
+value_sum-push (r ∷ rs) row = ap (λ n. r.value +ℤ n) (value_sum-push rs row) ∙ sym (+ℤ_assoc r.value (value_sum rs) row.value)
 
 filter_none : {A : Type 0} (p : A → Bool) (xs : List A) → list_any p xs ≡ false → filter p xs ≡ []
 filter_none p [] e = refl
-filter_none p (x ∷ xs) e = by (p x) refl e
+filter_none p (x ∷ xs) e = by (p x) e (filter_none p xs)
   where
-    by : (b : Bool) → p x ≡ b → (b || list_any p xs) ≡ false → cond b (x ∷ filter p xs) (filter p xs) ≡ []
-    by true t f = cc
-    by false t f = filter_none p xs f
+    by : (b : Bool) → (b || list_any p xs) ≡ false → (list_any p xs ≡ false → filter p xs ≡ []) → cond b (x ∷ filter p xs) (filter p xs) ≡ []
+    by true f rest = cc
+    by false f rest = rest f
 
 -- the sum of the rows with a stack, whether there are such or not
 sum_or_zero : (rows : List Row) (stack : Stack) → unwrap_or (sum_at rows stack) (pos 0) ≡ value_sum (filter (has_stack stack) rows)
@@ -109,6 +101,9 @@ summed_more m n rows row adds before q =
     ∙ ap (λ o. cond (is_eq (stack_cmp row.stack q)) (Some (unwrap_or (sum_at rows row.stack) (pos 0) +ℤ row.value)) o) (before q)
     ∙ sym (sum_at-push rows row q)
 
+pub total_more : (old new : ℤ) (rows : List Row) (row : Row) → new ≡ old +ℤ row.value → old ≡ value_sum rows → new ≡ value_sum (rows ++ row ∷ [])
+total_more old new rows row adds before = adds ∙ ap (λ n. n +ℤ row.value) before ∙ sym (value_sum-push rows row)
+
 -- ---- the list
 
 abbrev pub to_sum : Stack × ℤ → StackSum
@@ -127,11 +122,11 @@ sums_of_entries rows (s ∷ ss) = ap (λ l. stack_sum rows s ∷ l) (sums_of_ent
 
 lookup_entries : (rows : List Row) (q : Stack) (stacks : List Stack) → lookup (is_at (stack_cmp q)) (map (entry_at rows) stacks) ≡ cond (list_any (is_at (stack_cmp q)) stacks) (Some (value_sum (filter (has_stack q) rows))) None
 lookup_entries rows q [] = refl
-lookup_entries rows q (s ∷ ss) = by (is_eq (stack_cmp q s)) refl
+lookup_entries rows q (s ∷ ss) = by (is_eq (stack_cmp q s)) refl (lookup_entries rows q ss)
   where
-    by : (b : Bool) → is_eq (stack_cmp q s) ≡ b → cond b (Some (value_sum (filter (has_stack s) rows))) (lookup (is_at (stack_cmp q)) (map (entry_at rows) ss)) ≡ cond (b || list_any (is_at (stack_cmp q)) ss) (Some (value_sum (filter (has_stack q) rows))) None
-    by true e = ap (λ t. Some (value_sum (filter (has_stack t) rows))) (sym (stack_cmp_exact q s ((Equal-is (stack_cmp q s)).0 e)))
-    by false e = lookup_entries rows q ss
+    by : (b : Bool) → is_eq (stack_cmp q s) ≡ b → lookup (is_at (stack_cmp q)) (map (entry_at rows) ss) ≡ cond (list_any (is_at (stack_cmp q)) ss) (Some (value_sum (filter (has_stack q) rows))) None → cond b (Some (value_sum (filter (has_stack s) rows))) (lookup (is_at (stack_cmp q)) (map (entry_at rows) ss)) ≡ cond (b || list_any (is_at (stack_cmp q)) ss) (Some (value_sum (filter (has_stack q) rows))) None
+    by true e rest = ap (λ t. Some (value_sum (filter (has_stack t) rows))) (sym (stack_cmp_exact q s ((Equal-is (stack_cmp q s)).0 e)))
+    by false e rest = rest
 
 any_stack : (q : Stack) (rows : List Row) → list_any (is_at (stack_cmp q)) (map (λ row. row.stack) rows) ≡ list_any (has_stack q) rows
 any_stack q [] = refl
