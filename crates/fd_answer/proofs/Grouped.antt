@@ -19,7 +19,7 @@ use Rattle.std.proofs.lemmas.List.Folds.{list_any-append}
 use Rattle.fd_kinds.specs.declared.row.Row.{Row}
 use Rattle.fd_kinds.specs.declared.query.StackSum.{StackSum}
 use Rattle.fd_kinds.specs.Meaning.{stack_cmp, has_stack, value_sum, stack_sum, stack_sums, distinct}
-use Rattle.fd_answer.specs.Summed.{sum_at, IsSummed, AreSums}
+use Rattle.fd_answer.specs.Summed.{sum_at, IsSummed, AddsAt}
 use Rattle.fd_answer.proofs.Distinct.{sorted_distinct, any_distinct}
 
 abbrev Stack : Type 0
@@ -80,11 +80,14 @@ sum_at-push rows row q =
     parts =
         ap (λ b. made b (filter (has_stack q) (rows ++ row ∷ []))) (list_any-append (has_stack q) rows (row ∷ []) ∙ or_end (list_any (has_stack q) rows) (has_stack q row))
         ∙ ap (made (list_any (has_stack q) rows || has_stack q row)) (filter-append (has_stack q) rows (row ∷ []))
+
     same : has_stack q row ≡ true → q ≡ row.stack
     same e = stack_cmp_exact q row.stack ((Equal-is (stack_cmp q row.stack)).0 e)
+
     nothing_more : (l : List Row) → l ++ [] ≡ l
     nothing_more [] = refl
     nothing_more (x ∷ xs) = ap (λ l. x ∷ l) (nothing_more xs)
+
     by : (b : Bool) → has_stack q row ≡ b → made (list_any (has_stack q) rows || b) (filter (has_stack q) rows ++ cond b (row ∷ []) []) ≡ cond b (Some (unwrap_or (sum_at rows row.stack) (pos 0) +ℤ row.value)) (sum_at rows q)
     by true e =
         ap (λ b. made b (filter (has_stack q) rows ++ row ∷ [])) (or_true (list_any (has_stack q) rows))
@@ -94,7 +97,7 @@ sum_at-push rows row q =
         ∙ ap (made (list_any (has_stack q) rows)) (nothing_more (filter (has_stack q) rows))
 
 -- after one more row's value was added at its stack in the map m, which gives n
-pub summed_more : (m n : BTreeMap Stack ℤ) (rows : List Row) (row : Row) → ((q : Stack) → get stack_cmp n q ≡ cond (is_eq (stack_cmp row.stack q)) (Some (unwrap_or (get stack_cmp m row.stack) (pos 0) +ℤ row.value)) (get stack_cmp m q)) → IsSummed m rows → IsSummed n (rows ++ row ∷ [])
+pub summed_more : (m n : BTreeMap Stack ℤ) (rows : List Row) (row : Row) → AddsAt row.stack row.value m n → IsSummed m rows → IsSummed n (rows ++ row ∷ [])
 summed_more m n rows row adds before q =
     adds q
     ∙ ap (λ o. cond (is_eq (stack_cmp row.stack q)) (Some (unwrap_or o (pos 0) +ℤ row.value)) (get stack_cmp m q)) (before row.stack)
@@ -154,15 +157,17 @@ sums_from_map m rows ordered summed = ap (map to_sum) entries ∙ sums_of_entrie
   where
     rising : IsStrictlySortedBy stack_cmp (keys_of (map (entry_at rows) (stacks_of rows)))
     rising = subst (IsStrictlySortedBy stack_cmp) (sym (keys_of_entries rows (stacks_of rows))) (sorted_distinct stack_cmp_total (map (λ row. row.stack) rows))
+
     same : (q : Stack) → find stack_cmp q m.entries ≡ find stack_cmp q (map (entry_at rows) (stacks_of rows))
     same q =
         find-lookup q m.entries
         ∙ summed q
         ∙ sym (
-            find-lookup q (map (entry_at rows) (stacks_of rows))
-            ∙ lookup_entries rows q (stacks_of rows)
-            ∙ ap (λ b. cond b (Some (value_sum (filter (has_stack q) rows))) None) (any_distinct stack_cmp_total q (map (λ row. row.stack) rows) ∙ any_stack q rows)
-          )
+        find-lookup q (map (entry_at rows) (stacks_of rows))
+        ∙ lookup_entries rows q (stacks_of rows)
+        ∙ ap (λ b. cond b (Some (value_sum (filter (has_stack q) rows))) None) (any_distinct stack_cmp_total q (map (λ row. row.stack) rows) ∙ any_stack q rows)
+        )
+
     entries : m.entries ≡ map (entry_at rows) (stacks_of rows)
     entries =
         same_entries stack_cmp stack_cmp_total stack_cmp_exact m.entries (map (entry_at rows) (stacks_of rows)) (subst T (sym (in_order m.entries ordered)) tt) (subst T (sym (in_order (map (entry_at rows) (stacks_of rows)) rising)) tt) same

@@ -44,7 +44,11 @@ fn is_of_type(row: &Row, kind: &ProfileType) -> bool
         && row.sample_unit == kind.sample_unit
         && row.period_type == kind.period_type
         && row.period_unit == kind.period_unit
-        && (if kind.delta { row.duration != 0 } else { row.duration == 0 })
+        && (if kind.delta {
+            row.duration != 0
+        } else {
+            row.duration == 0
+        })
 }
 
 fn meets_all(row: &Row, matchers: &Matchers) -> bool

@@ -5,8 +5,15 @@ use crate::sums::Sums;
 use fd_kinds::{Answer, Batch, NoMemory, Query, Selector, Window};
 use std::alloc::Global;
 
-fn merge(alloc: Global, selector: &Selector, window: &Window, batches: &[Batch]) -> Result<Answer, NoMemory>
-    ensures { IfOk result (λ answer. answer ≡ merge_of (kept_rows selector.now window.now (flat_map (λ batch. batch.rows) batches.now))) }
+fn merge(
+    alloc: Global,
+    selector: &Selector,
+    window: &Window,
+    batches: &[Batch],
+) -> Result<Answer, NoMemory>
+    ensures { IfOk result (λ answer.
+        let rows = flat_map (λ batch. batch.rows) batches.now in
+        answer ≡ merge_of (kept_rows selector.now window.now rows)) }
 {
     let sums = Sums::of(alloc, selector, window, batches)?;
     let (stacks, total) = sums.into_list(alloc)?;

@@ -3,7 +3,7 @@ ghost use Rattle.std.specs.Ordering.{is_eq};
 ghost use Rattle.std.specs.BTreeMap.{get};
 ghost use Rattle.fd_kinds.specs.declared.row.Row.{Row};
 ghost use Rattle.fd_kinds.specs.Meaning.{stack_cmp, kept_rows, stack_sums, value_sum};
-ghost use Rattle.fd_answer.specs.Summed.{IsSummed, AreSums};
+ghost use Rattle.fd_answer.specs.Summed.{IsSummed, AddsAt, AreSums};
 
 use crate::matching::{is_selected, is_within};
 use fd_kinds::{Batch, Items, NoMemory, Row, Selector, Share, Stack, StackSum, StackSums, Window};
@@ -12,7 +12,7 @@ use std::collections::BTreeMap;
 
 /// Adds the row's value to the sum of its stack.
 fn add_to_stack(by_stack: &mut BTreeMap<Stack, i128>, row: &Row) -> Result<(), NoMemory>
-    ensures { OnOk result ((stack : List (List ℕ)) → get stack_cmp by_stack.new stack ≡ (if is_eq (stack_cmp row.now.stack stack) then Some (unwrap_or (get stack_cmp by_stack.old row.now.stack) (pos 0) +ℤ row.now.value) else get stack_cmp by_stack.old stack)) }
+    ensures { OnOk result (AddsAt row.now.stack row.now.value by_stack.old by_stack.new) }
 {
     let value = i128::from(row.value);
     match by_stack.get_mut(&row.stack) {
@@ -56,7 +56,9 @@ impl Sums {
     }
 
     fn add(&mut self, row: &Row) -> Result<(), NoMemory>
-        ensures { OnOk result ((rows : List Row) → AreSums self.old.by_stack self.old.total rows → AreSums self.new.by_stack self.new.total (rows ++ row.now ∷ [])) }
+        ensures { OnOk result (
+            (rows : List Row) → AreSums self.old.by_stack self.old.total rows
+            → AreSums self.new.by_stack self.new.total (rows ++ row.now ∷ [])) }
     {
         let total = self
             .total
@@ -68,8 +70,15 @@ impl Sums {
     }
 
     /// Adds the rows that the selector and the window keep.
-    fn add_kept(&mut self, selector: &Selector, window: &Window, rows: &[Row]) -> Result<(), NoMemory>
-        ensures { OnOk result ((before : List Row) → AreSums self.old.by_stack self.old.total before → AreSums self.new.by_stack self.new.total (before ++ kept_rows selector.now window.now rows.now)) }
+    fn add_kept(
+        &mut self,
+        selector: &Selector,
+        window: &Window,
+        rows: &[Row],
+    ) -> Result<(), NoMemory>
+        ensures { OnOk result (
+            (before : List Row) → AreSums self.old.by_stack self.old.total before
+            → AreSums self.new.by_stack self.new.total (before ++ kept_rows selector.now window.now rows.now)) }
     {
         for row in rows {
             if is_within(window, row) && is_selected(selector, row) {
@@ -80,8 +89,15 @@ impl Sums {
     }
 
     /// The sums of the kept rows of all batches.
-    pub fn of(alloc: Global, selector: &Selector, window: &Window, batches: &[Batch]) -> Result<Sums, NoMemory>
-        ensures { IfOk result (λ sums. AreSums sums.by_stack sums.total (kept_rows selector.now window.now (flat_map (λ batch. batch.rows) batches.now))) }
+    pub fn of(
+        alloc: Global,
+        selector: &Selector,
+        window: &Window,
+        batches: &[Batch],
+    ) -> Result<Sums, NoMemory>
+        ensures { IfOk result (λ sums.
+            let rows = flat_map (λ batch. batch.rows) batches.now in
+            AreSums sums.by_stack sums.total (kept_rows selector.now window.now rows)) }
     {
         let mut sums = Sums::new(alloc);
         for batch in batches {
@@ -92,7 +108,9 @@ impl Sums {
 
     /// The sums as a list, and the total.
     pub fn into_list(self, alloc: Global) -> Result<(StackSums, i128), NoMemory>
-        ensures { IfOk result (λ list. (rows : List Row) → AreSums self.by_stack self.total rows → (list.0 ≡ stack_sums rows) × (list.1 ≡ value_sum rows)) }
+        ensures { IfOk result (λ list.
+            (rows : List Row) → AreSums self.by_stack self.total rows
+            → (list.0 ≡ stack_sums rows) × (list.1 ≡ value_sum rows)) }
     {
         let Sums { by_stack, total } = self;
         Ok((listed(alloc, by_stack)?, total))

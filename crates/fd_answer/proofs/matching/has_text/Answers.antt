@@ -12,15 +12,15 @@ returns-then-eq-2 c =
     ∙ ap
     (λ t. bytes_eq t c.args.value.now)
     (
-      sym
-        (
-          label_matched c.args.row.now c.args.name.now c.pair-item.result.value other
-            (
-              c.loop-pair.invariant
-                ∙ value_at c.args.row.now.labels.pairs c.loop-pair.pair-index c.pair-item.result c.args.name.now within is
-                ∙ ap (λ b. cond b (Some c.pair-item.result.value) (value_of (drop (c.loop-pair.pair-index + 1) c.args.row.now.labels.pairs) c.args.name.now)) (sym c.eq-in-loop-pair.ensures ∙ c.if-eq-2.true)
-            )
-        )
+    sym
+    (
+    label_matched c.args.row.now c.args.name.now c.pair-item.result.value other
+    (
+    c.loop-pair.invariant
+    ∙ value_at c.args.row.now.labels.pairs c.loop-pair.pair-index c.pair-item.result c.args.name.now within is
+    ∙ ap (λ b. cond b (Some c.pair-item.result.value) (value_of (drop (c.loop-pair.pair-index + 1) c.args.row.now.labels.pairs) c.args.name.now)) (sym c.eq-in-loop-pair.ensures ∙ c.if-eq-2.true)
+    )
+    )
     )
 
 pub loop-pair-preserved : goal.loop-pair-preserved
