@@ -1,5 +1,5 @@
 -- A label's value, looked up pair by pair.
-use Rattle.std.proofs.Common.{◌≡◌, ℕ, ◌+◌, ◌<◌, Bool, false, cond, List, length, drop, get_or, ◌∷◌, sym, ◌∙◌, ap, bytes_eq, codes, Some, None, refl}
+use Rattle.std.proofs.Common.{◌≡◌, ℕ, ◌+◌, ◌<◌, false, cond, List, length, drop, get_or, ◌∷◌, sym, ◌∙◌, ap, bytes_eq, codes, Some, refl}
 use Rattle.std.proofs.lemmas.List.{drop_more}
 use Rattle.std.specs.Cmp.Lexicographic.{texts_ties}
 use Rattle.fd_kinds.specs.declared.kinds.Pair.{Pair}

@@ -1,8 +1,6 @@
-ghost use Rattle.std.specs.Prelude.{◌≡◌, ℕ, List, [], ◌∷◌, ◌++◌, Some, pos, ◌+ℤ◌, flat_map, unwrap_or, OnOk, IfOk, if◌then◌else◌};
-ghost use Rattle.std.specs.Ordering.{is_eq};
-ghost use Rattle.std.specs.BTreeMap.{get};
+ghost use Rattle.std.specs.Prelude.{◌≡◌, List, [], ◌∷◌, ◌++◌, flat_map, OnOk, IfOk};
 ghost use Rattle.fd_kinds.specs.declared.row.Row.{Row};
-ghost use Rattle.fd_kinds.specs.Meaning.{stack_cmp, kept_rows, stack_sums, value_sum};
+ghost use Rattle.fd_kinds.specs.Meaning.{kept_rows, stack_sums, value_sum};
 ghost use Rattle.fd_answer.specs.Summed.{IsSummed, AddsAt, AreSums};
 
 use crate::matching::{is_selected, is_within};

@@ -151,11 +151,16 @@ fn keeps_matched(alloc: Global, name: &str, op: MatchOp, value: &str) -> Result<
 #[test]
 fn matchers_compare_labels_and_the_name(rt: HostRuntime) -> Result<(), Fail> {
     let alloc = rt.alloc();
-    assert!(rt; keeps_matched(alloc, "region", MatchOp::Equal, "eu")?);
-    assert!(rt; !keeps_matched(alloc, "region", MatchOp::NotEqual, "eu")?);
-    assert!(rt; keeps_matched(alloc, "zone", MatchOp::Equal, "")?);
-    assert!(rt; !keeps_matched(alloc, "zone", MatchOp::NotEqual, "")?);
-    assert!(rt; keeps_matched(alloc, "__name__", MatchOp::Equal, "process_cpu")?);
+    let cases = [
+        ("region", MatchOp::Equal, "eu", true),
+        ("region", MatchOp::NotEqual, "eu", false),
+        ("zone", MatchOp::Equal, "", true),
+        ("zone", MatchOp::NotEqual, "", false),
+        ("__name__", MatchOp::Equal, "process_cpu", true),
+    ];
+    for (name, op, value, kept) in cases {
+        assert!(rt; keeps_matched(alloc, name, op, value)? == kept);
+    }
     Ok(())
 }
 
@@ -183,12 +188,17 @@ fn keeps_within(
 #[test]
 fn windows_have_their_ends_and_delta_asks_for_a_duration(rt: HostRuntime) -> Result<(), Fail> {
     let alloc = rt.alloc();
-    assert!(rt; keeps_within(alloc, 0, false, 1000, 1000)?);
-    assert!(rt; !keeps_within(alloc, 0, false, 1001, 2000)?);
-    assert!(rt; !keeps_within(alloc, 0, false, 0, 999)?);
-    assert!(rt; keeps_within(alloc, 5, true, 1000, 1000)?);
-    assert!(rt; !keeps_within(alloc, 5, false, 1000, 1000)?);
-    assert!(rt; !keeps_within(alloc, 0, true, 1000, 1000)?);
+    let cases = [
+        (0, false, 1000, 1000, true),
+        (0, false, 1001, 2000, false),
+        (0, false, 0, 999, false),
+        (5, true, 1000, 1000, true),
+        (5, false, 1000, 1000, false),
+        (0, true, 1000, 1000, false),
+    ];
+    for (duration, delta, start, end, kept) in cases {
+        assert!(rt; keeps_within(alloc, duration, delta, start, end)? == kept);
+    }
     Ok(())
 }
 

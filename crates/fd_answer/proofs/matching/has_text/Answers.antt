@@ -1,4 +1,4 @@
-use Rattle.std.proofs.Common.{rules, ◌≡◌, ℕ, ◌<◌, List, length, get_or, bytes_eq, codes, false, sym, ◌∙◌, ap, cond, drop, Some, ◌+◌}
+use Rattle.std.proofs.Common.{rules, ◌≡◌, ◌<◌, length, get_or, bytes_eq, codes, false, sym, ◌∙◌, ap, cond, drop, Some, ◌+◌}
 use Rattle.fd_kinds.specs.LabelMaps.{value_of}
 use Rattle.fd_answer.proofs.Looked.{value_at, label_matched}
 use Rattle.fd_answer.proofs.matching.has_text.Goals as goal
