@@ -1,0 +1,335 @@
+-- A session turn by turn: what the turns so far keep, and what the last of them leaves.
+use Rattle.std.proofs.Common.{◌≡◌, ℕ, ◌+◌, ◌-◌, ◌<◌, ◌≤◌, ◌||◌, ◌==◌, Bool, true, false, cond, List, [], ◌∷◌, ◌++◌, length, take, None, Some, Result, Ok, Err, refl, sym, subst, ap, ◌∙◌, arith, append_assoc, length-append}
+use mathlib.Core.Logic.{◌⊎◌, inl, inr}
+use Rattle.std.proofs.lemmas.Bool.Decides.{nat_tests}
+use Rattle.std.proofs.lemmas.List.{append-nil}
+use Rattle.std.proofs.Math.Seq.{take-append-add}
+use Rattle.std.proofs.KnownBytes.{Appends-trans, Appends-nil}
+use Rattle.std.specs.declared.option.Option.{Option}
+use Rattle.std.specs.Io.KnownBytes.{Keeps, Appends}
+use Rattle.fd_kinds.specs.Counts.{Rose}
+use Rattle.fd_kinds.specs.declared.row.Row.{Row}
+use Rattle.fd_kinds.specs.declared.query.Query.{Query}
+use Rattle.fd_kinds.specs.declared.store.Seen.{Seen}
+use Rattle.fd_kinds.specs.declared.stand.Stand.{Stand}
+use Rattle.fd_kinds.specs.declared.store.WriteRefusal.{WriteRefusal}
+use Rattle.fd_kinds.specs.declared.store.ReadRefusal.{ReadRefusal}
+use Rattle.fd_http.specs.declared.request.Request.{Request}
+use Rattle.fd_http.specs.declared.request.Arrived.TheVariants as arrived
+use Rattle.fd_http.specs.Arrives.{Arrives}
+use Rattle.fd_http.specs.Leads.{HasRead, HasSplit, leads_none, has_read_more, has_read_close, has_read_end, has_read_refused, has_read_limit}
+use Rattle.fd_http.specs.Replies.{AppendsFront}
+use Rattle.fd_http.specs.Rests.{Holds, refused, End, closed, limit, refused_as}
+use Rattle.fd_http.specs.Rests as ends
+use Rattle.fd_http.specs.Told.{IfTold}
+use Rattle.fd_http.specs.declared.request.RequestFault.{RequestFault}
+use Rattle.fd_http.specs.declared.request.RequestFault.TheVariants as head
+use Rattle.fd_json.specs.declared.refusal.Fault.{Fault}
+use Rattle.fd_json.specs.declared.refusal.Fault.TheVariants as fault
+use Rattle.fd_device.specs.declared.sink.Put.{Put}
+use Rattle.fd_device.specs.declared.sink.Put.TheVariants.{Done, Failed}
+use Rattle.fd_device.specs.Streams.{PutCause}
+use Rattle.fd_api.specs.declared.note.Note.{Note}
+use Rattle.fd_api.specs.declared.serving.EndKind.{EndKind}
+use Rattle.fd_api.specs.declared.serving.EndKind.TheVariants as kind
+use Rattle.fd_api.specs.Replies.{IsSent, refusal}
+use Rattle.fd_api.specs.Sessions.{MOST_REQUESTS, Runs, Serves, Served, Ends, SinkCause, is_last, is_faulted, Begins, IsSplit, IsBegun, IsDrained, AppendsThen}
+use Rattle.fd_api.specs.Turns.{PutsReply, Turned, Unturned, NoRequest, EndsAt, Silent, Turns, after_put}
+use Rattle.fd_api.proofs.Told.{Appends-Keeps}
+
+second_nil : (xs ys : List ℕ) → xs ++ ys ≡ [] → ys ≡ []
+second_nil [] ys e = e
+second_nil (x ∷ xs) ys e = cc
+
+nothing_read : (left : Option (List ℕ)) → HasRead left left [] [] [] MOST_REQUESTS
+nothing_read None = tt
+nothing_read (Some bytes) = leads_none MOST_REQUESTS bytes
+
+-- the last turn is the one with room for one request
+pub last_of : (served : ℕ) → served < 100000 → (served + 1 == 100000) ≡ (100000 - served == 1)
+last_of served some = grind (arith, nat_tests)
+
+-- what the next turn needs
+goes_on_from : (faulted close : Bool) (put : Put) → cond faulted (Some kind.DiskFault) (after_put close put) ≡ None → (faulted ≡ false) × (put ≡ Done) × (close ≡ false)
+goes_on_from true close put e = cc
+goes_on_from false true Done e = cc
+goes_on_from false false Done e = (refl, refl, refl)
+goes_on_from false close Failed e = cc
+
+-- the requests begin what was told
+begins_from : (old now : Option (List ℕ)) (inbox : List ℕ) (requests : List Request) (room : ℕ) → HasRead old now [] inbox requests room → Begins old requests
+begins_from None now inbox requests room read = tt
+begins_from (Some bytes) None inbox requests room read = absurd read
+begins_from (Some bytes) (Some left) inbox requests room read = (room, inbox ++ left, read)
+
+-- the requests split it
+split_from : (old now : Option (List ℕ)) (inbox : List ℕ) (requests : List Request) (end : End) → HasSplit old now [] inbox requests end → IsSplit old requests end
+split_from None now inbox requests end split = tt
+split_from (Some bytes) None inbox requests end split = absurd split
+split_from (Some bytes) (Some left) inbox requests end split = split
+
+begun_from : (old mid now : Option (List ℕ)) (inbox_mid inbox : List ℕ) (requests : List Request) (room : ℕ) (request : Request) → HasRead old mid [] inbox_mid requests room → 0 < room
+    → Arrives mid now inbox_mid inbox (Ok (arrived.One request)) → (close : Bool) → request.close ≡ close → IsBegun old (requests ++ request ∷ [])
+begun_from old mid now inbox_mid inbox requests room request read some arrives true is =
+    inr (split_from old now inbox (requests ++ request ∷ []) closed (has_read_close old mid now [] inbox_mid inbox requests room request read some arrives is))
+begun_from old mid now inbox_mid inbox requests room request read some arrives false is =
+    inl (begins_from old now inbox (requests ++ request ∷ []) (room - 1) (has_read_more old mid now [] inbox_mid inbox requests room request read some arrives is))
+
+-- the bytes so far, and a front of some more
+front_more : (old mid now : Option (List ℕ)) (output bytes : List ℕ) → Appends old mid output → AppendsFront mid now bytes → AppendsFront old now (output ++ bytes)
+front_more old mid now output bytes so_far front =
+    let whole : take (length output + front.0) (output ++ bytes) ≡ output ++ take front.0 bytes = take-append-add output bytes front.0 in (
+      length output + front.0,
+      omega (arith, length-append output bytes, front.1),
+      subst (Appends old now) (sym whole) (Appends-trans old mid now output (take front.0 bytes) so_far front.2),
+    )
+
+-- no byte is left where the next request was not there
+drained_from : (old mid now : Option (List ℕ)) (inbox_mid inbox : List ℕ) (requests : List Request) (room : ℕ) → HasRead old mid [] inbox_mid requests room → Arrives mid now inbox_mid inbox (Ok arrived.End) → IsDrained old now
+drained_from None mid now inbox_mid inbox requests room read arrives = tt
+drained_from (Some bytes) None now inbox_mid inbox requests room read arrives = absurd read
+drained_from (Some bytes) (Some left) None inbox_mid inbox requests room read arrives = arrives
+drained_from (Some bytes) (Some left) (Some rest) inbox_mid inbox requests room read arrives = second_nil inbox rest arrives.1
+
+module _ {S : Type 0} (write_gives : S → List Row → Result ℕ WriteRefusal → S → Type 0) (read_gives : S → ℕ → Query → Result Seen ReadRefusal → S → Type 0) (stand_gives : S → Stand → S → Type 0) where
+  -- one more request at the end of a run
+  pub runs_push : (requests : List Request) (notes : List Note) (old mid new : S) (room left : ℕ) (output bytes : List ℕ) (request : Request) (note : Note)
+      → Runs write_gives read_gives stand_gives old room requests notes mid output → length requests + left ≡ room → 0 < left
+      → Serves write_gives read_gives stand_gives request mid note new (is_last left request note) bytes
+      → Runs write_gives read_gives stand_gives old room (requests ++ request ∷ []) (notes ++ note ∷ []) new (output ++ bytes)
+  runs_push [] [] old mid new room left output bytes request note run count some serves =
+      let same : left ≡ room = omega (arith, count) in
+      let at_old : Serves write_gives read_gives stand_gives request old note new (is_last left request note) bytes = subst (λ x. Serves write_gives read_gives stand_gives request x note new (is_last left request note) bytes) run.0 serves in
+      let P : ℕ → Type 0 = λ n. 0 < n in (
+        subst P same some,
+        new,
+        bytes,
+        [],
+        subst (λ n. Serves write_gives read_gives stand_gives request old note new (is_last n request note) bytes) same at_old,
+        (refl, refl),
+        ap (λ (l : List ℕ). l ++ bytes) run.1 ∙ sym (append-nil bytes),
+      )
+  runs_push [] (n ∷ ns) old mid new room left output bytes request note run count some serves = absurd run
+  runs_push (q ∷ qs) [] old mid new room left output bytes request note run count some serves = absurd run
+  runs_push (q ∷ qs) (n ∷ ns) old mid new room left output bytes request note run count some serves =
+      let fewer : length qs + left ≡ room - 1 = omega (arith, count) in (
+        run.0,
+        run.1,
+        run.2,
+        run.3 ++ bytes,
+        run.4,
+        runs_push qs ns run.1 mid new (room - 1) left run.3 bytes request note run.5 fewer some serves,
+        ap (λ (l : List ℕ). l ++ bytes) run.6 ∙ append_assoc run.2 run.3 bytes,
+      )
+
+  -- the requests so far, with room for so many more
+  pub record SoFar (left_old left_now : Option (List ℕ)) (inbox : List ℕ) (taken_old taken_now : Option (List ℕ)) (old now : S) (notes : List Note) (room : ℕ) : Type 0 where
+    pub requests : List Request
+    pub output : List ℕ
+    pub read : HasRead left_old left_now [] inbox requests room
+    pub count : length requests + room ≡ MOST_REQUESTS
+    pub run : Runs write_gives read_gives stand_gives old MOST_REQUESTS requests notes now output
+    pub written : Appends taken_old taken_now output
+
+  -- no turn yet
+  pub none_yet : (left taken : Option (List ℕ)) (store : S) (notes : List Note) → notes ≡ [] → SoFar left left [] taken taken store store notes MOST_REQUESTS
+  none_yet left taken store notes none = record {
+    requests = [];
+    output = [];
+    read = nothing_read left;
+    count = refl;
+    run = subst (λ (ns : List Note). Runs write_gives read_gives stand_gives store MOST_REQUESTS [] ns store []) (sym none) (refl, refl);
+    written = Appends-nil taken;
+  }
+
+  -- one more request, which was replied to
+  abbrev with_turn : (left_old left_mid left_now : Option (List ℕ)) (inbox_mid inbox : List ℕ) (taken_old taken_mid taken_now : Option (List ℕ)) (before now_count : ℕ) (old mid now : S) (notes_mid notes : List Note) (room : ℕ) (end : Option EndKind)
+      → (so_far : SoFar left_old left_mid inbox_mid taken_old taken_mid old mid notes_mid room) → 0 < room
+      → (t : Turned write_gives read_gives stand_gives left_mid left_now inbox_mid inbox taken_mid taken_now before now_count mid now notes_mid notes (room == 1) end)
+      → Runs write_gives read_gives stand_gives old MOST_REQUESTS (so_far.requests ++ t.request ∷ []) notes now (so_far.output ++ t.bytes)
+  with_turn left_old left_mid left_now inbox_mid inbox taken_old taken_mid taken_now before now_count old mid now notes_mid notes room end so_far some t =
+      subst (λ (ns : List Note). Runs write_gives read_gives stand_gives old MOST_REQUESTS (so_far.requests ++ t.request ∷ []) ns now (so_far.output ++ t.bytes)) (sym t.noted)
+      (runs_push so_far.requests notes_mid old mid now MOST_REQUESTS room so_far.output t.bytes t.request t.note so_far.run so_far.count some t.serves)
+
+  pub goes_on : (left_old left_mid left_now : Option (List ℕ)) (inbox_mid inbox : List ℕ) (taken_old taken_mid taken_now : Option (List ℕ)) (before now_count : ℕ) (old mid now : S) (notes_mid notes : List Note) (room : ℕ)
+      → SoFar left_old left_mid inbox_mid taken_old taken_mid old mid notes_mid room → 0 < room
+      → Turned write_gives read_gives stand_gives left_mid left_now inbox_mid inbox taken_mid taken_now before now_count mid now notes_mid notes (room == 1) None
+      → SoFar left_old left_now inbox taken_old taken_now old now notes (room - 1) × (now_count ≡ before)
+  goes_on left_old left_mid left_now inbox_mid inbox taken_old taken_mid taken_now before now_count old mid now notes_mid notes room so_far some t =
+      let going = goes_on_from (is_faulted t.note) t.request.close t.put (sym t.goes) in
+      let sent : Appends taken_mid taken_now t.bytes = subst (PutsReply taken_mid taken_now t.bytes) going.1 t.sent in
+      let kept : now_count ≡ before = subst (PutCause before now_count) going.1 t.count in (
+        record {
+          requests = so_far.requests ++ t.request ∷ [];
+          output = so_far.output ++ t.bytes;
+          read = has_read_more left_old left_mid left_now [] inbox_mid inbox so_far.requests room t.request so_far.read some t.arrives going.2;
+          count = omega (arith, length-append so_far.requests (t.request ∷ []), so_far.count);
+          run = with_turn left_old left_mid left_now inbox_mid inbox taken_old taken_mid taken_now before now_count old mid now notes_mid notes room None so_far some t;
+          written = Appends-trans taken_old taken_mid taken_now so_far.output t.bytes so_far.written sent;
+        },
+        kept,
+      )
+
+  module _ (left_old left_mid left_now : Option (List ℕ)) (inbox_mid inbox : List ℕ) (taken_old taken_mid taken_now : Option (List ℕ)) (before mid_count now_count : ℕ) (same_count : mid_count ≡ before) (old mid now : S) (notes_mid notes : List Note) (room : ℕ) (so_far : SoFar left_old left_mid inbox_mid taken_old taken_mid old mid notes_mid room) (some : 0 < room) where
+    abbrev Finish : EndKind → Type 0
+    Finish e = Ends write_gives read_gives stand_gives left_old left_now taken_old taken_now before now_count old notes now e × SinkCause before now_count e
+
+    module _ (end : Option EndKind) (t : Turned write_gives read_gives stand_gives left_mid left_now inbox_mid inbox taken_mid taken_now mid_count now_count mid now notes_mid notes (room == 1) end) where
+      abbrev requests : List Request
+      requests = so_far.requests ++ t.request ∷ []
+
+      run : Runs write_gives read_gives stand_gives old MOST_REQUESTS requests notes now (so_far.output ++ t.bytes)
+      run = with_turn left_old left_mid left_now inbox_mid inbox taken_old taken_mid taken_now mid_count now_count old mid now notes_mid notes room end so_far some t
+
+      begun : IsBegun left_old requests
+      begun = begun_from left_old left_mid left_now inbox_mid inbox so_far.requests room t.request so_far.read some t.arrives t.request.close refl
+
+      -- the disk failed: the reply to that was written, or not
+      failed : (put : Put) → PutsReply taken_mid taken_now t.bytes put → PutCause mid_count now_count put → Finish kind.DiskFault
+      failed Done sent kept =
+          let same : now_count ≡ before = kept ∙ same_count in (
+            record { requests = requests; output = so_far.output ++ t.bytes; read = begun; run = run; written = inl (Appends-trans taken_old taken_mid taken_now so_far.output t.bytes so_far.written sent, same) },
+            inl same,
+          )
+      failed Failed sent rose =
+          let up : Rose before now_count = subst (λ (n : ℕ). Rose n now_count) same_count rose in (
+            record { requests = requests; output = so_far.output ++ t.bytes; read = begun; run = run; written = inr (front_more taken_old taken_mid taken_now so_far.output t.bytes so_far.written sent, up) },
+            inr up,
+          )
+
+      ended_by : (faulted close : Bool) (put : Put) (e : EndKind) → t.request.close ≡ close → PutsReply taken_mid taken_now t.bytes put → PutCause mid_count now_count put
+          → Some e ≡ cond faulted (Some kind.DiskFault) (after_put close put) → Finish e
+      ended_by true close put e closes sent cause is = let same : kind.DiskFault ≡ e = cc in subst Finish same (failed put sent cause)
+      ended_by false close Failed e closes sent rose is =
+          let same : kind.WriteFault ≡ e = cc in
+          subst Finish same (
+            record { requests = requests; output = so_far.output ++ t.bytes; read = begun; run = run; written = inl (front_more taken_old taken_mid taken_now so_far.output t.bytes so_far.written sent) },
+            subst (λ (n : ℕ). Rose n now_count) same_count rose,
+          )
+      ended_by false true Done e closes sent kept is =
+          let same : kind.Closed ≡ e = cc in
+          subst Finish same (
+            record {
+              requests = requests;
+              output = so_far.output ++ t.bytes;
+              read = split_from left_old left_now inbox requests closed (has_read_close left_old left_mid left_now [] inbox_mid inbox so_far.requests room t.request so_far.read some t.arrives closes);
+              run = run;
+              written = Appends-trans taken_old taken_mid taken_now so_far.output t.bytes so_far.written sent;
+            },
+            kept ∙ same_count,
+          )
+      ended_by false false Done e closes sent kept is = cc
+
+    pub turned_ends : (e : EndKind) → Turned write_gives read_gives stand_gives left_mid left_now inbox_mid inbox taken_mid taken_now mid_count now_count mid now notes_mid notes (room == 1) (Some e) → Finish e
+    turned_ends e t = ended_by (Some e) t (is_faulted t.note) t.request.close t.put e refl t.sent t.count t.goes
+
+    module _ (end : Option EndKind) (u : Unturned write_gives read_gives stand_gives left_mid left_now inbox_mid inbox taken_mid taken_now mid_count now_count mid now notes_mid notes end) where
+      run_so_far : Runs write_gives read_gives stand_gives old MOST_REQUESTS so_far.requests notes now so_far.output
+      run_so_far =
+          subst (λ (x : S). Runs write_gives read_gives stand_gives old MOST_REQUESTS so_far.requests notes x so_far.output) (sym u.store)
+          (subst (λ (ns : List Note). Runs write_gives read_gives stand_gives old MOST_REQUESTS so_far.requests ns mid so_far.output) (sym u.noted) so_far.run)
+
+      begins : Begins left_old so_far.requests
+      begins = begins_from left_old left_mid inbox_mid so_far.requests room so_far.read
+
+      silent : Silent taken_mid taken_now mid_count now_count → Appends taken_old taken_now so_far.output
+      silent s = Appends-Keeps taken_old taken_mid taken_now so_far.output so_far.written s.taken
+
+      split_refused : (f : RequestFault) → IfTold left_mid left_now inbox_mid inbox (λ rest after. Holds rest (refused f)) → IsSplit left_old so_far.requests (refused_as f)
+      split_refused f holds = split_from left_old left_now inbox so_far.requests (refused_as f) (has_read_refused left_old left_mid left_now [] inbox_mid inbox so_far.requests room f so_far.read some holds)
+
+      -- the one reply to a head that is refused was not written
+      unwritten : (f : Fault) → Rose mid_count now_count → (last : List ℕ) → IsSent true (refusal f) last → AppendsFront taken_mid taken_now last → Finish kind.WriteFault
+      unwritten f rose last sent front = (
+        record { requests = so_far.requests; output = so_far.output; read = inl begins; run = run_so_far; written = inr (f, last, sent, front_more taken_old taken_mid taken_now so_far.output last so_far.written front) },
+        subst (λ (n : ℕ). Rose n now_count) same_count rose,
+      )
+
+      -- it was written
+      dismissed : (head : RequestFault) (f : Fault) → IsSplit left_old so_far.requests (refused_as head) → (last : List ℕ) → IsSent true (refusal f) last → Appends taken_mid taken_now last
+          → Served write_gives read_gives stand_gives (λ requests. IsSplit left_old requests (refused_as head)) old notes now (AppendsThen taken_old taken_now f)
+      dismissed head f split last sent more = record {
+        requests = so_far.requests;
+        output = so_far.output;
+        read = split;
+        run = run_so_far;
+        written = (last, sent, Appends-trans taken_old taken_mid taken_now so_far.output last so_far.written more);
+      }
+
+      short_count : (now_count ≡ mid_count) ⊎ Rose mid_count now_count → (now_count ≡ before) ⊎ Rose before now_count
+      short_count (inl kept) = inl (kept ∙ same_count)
+      short_count (inr rose) = inr (subst (λ (n : ℕ). Rose n now_count) same_count rose)
+
+      refused_ends : (f : RequestFault) (e : EndKind) → Arrives left_mid left_now inbox_mid inbox (Err f) → EndsAt taken_mid taken_now mid_count now_count f e → Finish e
+      refused_ends head.BadHead e arrives (inl (is, kept, last, sent, more)) = subst Finish (sym is) (dismissed head.BadHead fault.BadHead (split_refused head.BadHead arrives) last sent more, kept ∙ same_count)
+      refused_ends head.BadHead e arrives (inr (is, rose, last, sent, front)) = subst Finish (sym is) (unwritten fault.BadHead rose last sent front)
+      refused_ends head.NoLength e arrives (inl (is, kept, last, sent, more)) = subst Finish (sym is) (dismissed head.NoLength fault.NoLength (split_refused head.NoLength arrives) last sent more, kept ∙ same_count)
+      refused_ends head.NoLength e arrives (inr (is, rose, last, sent, front)) = subst Finish (sym is) (unwritten fault.NoLength rose last sent front)
+      refused_ends head.TooLarge e arrives (inl (is, kept, last, sent, more)) = subst Finish (sym is) (dismissed head.TooLarge fault.TooLarge (split_refused head.TooLarge arrives) last sent more, kept ∙ same_count)
+      refused_ends head.TooLarge e arrives (inr (is, rose, last, sent, front)) = subst Finish (sym is) (unwritten fault.TooLarge rose last sent front)
+      refused_ends head.Cut e arrives (is, s) =
+          subst Finish (sym is) (record { requests = so_far.requests; output = so_far.output; read = split_refused head.Cut arrives; run = run_so_far; written = silent s }, s.count ∙ same_count)
+      refused_ends head.ReadFault e arrives (is, s) =
+          subst Finish (sym is) (record { requests = so_far.requests; output = so_far.output; read = begins; run = run_so_far; written = silent s }, s.count ∙ same_count)
+      refused_ends head.NoMemory e arrives (is, s) =
+          subst Finish (sym is) (
+            record {
+              requests = so_far.requests;
+              output = so_far.output;
+              read = begins;
+              run = run_so_far;
+              written = (s.taken.0, s.taken.1, Appends-trans taken_old taken_mid taken_now so_far.output _ so_far.written s.taken.2);
+            },
+            short_count s.count,
+          )
+
+      ended : Arrives left_mid left_now inbox_mid inbox (Ok arrived.End) → Silent taken_mid taken_now mid_count now_count → Finish kind.Ended
+      ended arrives s = (
+        (
+          record {
+            requests = so_far.requests;
+            output = so_far.output;
+            read = split_from left_old left_now inbox so_far.requests ends.ended (has_read_end left_old left_mid left_now [] inbox_mid inbox so_far.requests room so_far.read some arrives);
+            run = run_so_far;
+            written = silent s;
+          },
+          drained_from left_old left_mid left_now inbox_mid inbox so_far.requests room so_far.read arrives,
+        ),
+        s.count ∙ same_count,
+      )
+
+      how_ends : (e : EndKind) → NoRequest left_mid left_now inbox_mid inbox taken_mid taken_now mid_count now_count e → Finish e
+      how_ends e (inl (is, arrives, s)) = subst Finish (sym is) (ended arrives s)
+      how_ends e (inr (f, arrives, ends)) = refused_ends f e arrives ends
+
+    pub unturned_ends : (e : EndKind) → Unturned write_gives read_gives stand_gives left_mid left_now inbox_mid inbox taken_mid taken_now mid_count now_count mid now notes_mid notes (Some e) → Finish e
+    unturned_ends e u = let same : u.kind ≡ e = cc in subst Finish same (how_ends (Some e) u u.kind u.how)
+
+    pub turn_ends : (last : Bool) (e : EndKind) → last ≡ (room == 1) → Turns write_gives read_gives stand_gives left_mid left_now inbox_mid inbox taken_mid taken_now mid_count now_count mid now notes_mid notes last (Some e) → Finish e
+    turn_ends last e is turns = by (subst (λ (b : Bool). Turns write_gives read_gives stand_gives left_mid left_now inbox_mid inbox taken_mid taken_now mid_count now_count mid now notes_mid notes b (Some e)) is turns)
+      where
+        by : Turns write_gives read_gives stand_gives left_mid left_now inbox_mid inbox taken_mid taken_now mid_count now_count mid now notes_mid notes (room == 1) (Some e) → Finish e
+        by (inl t) = turned_ends e t
+        by (inr u) = unturned_ends e u
+
+    pub turn_goes_on : (last : Bool) → last ≡ (room == 1) → Turns write_gives read_gives stand_gives left_mid left_now inbox_mid inbox taken_mid taken_now mid_count now_count mid now notes_mid notes last None
+        → SoFar left_old left_now inbox taken_old taken_now old now notes (room - 1) × (now_count ≡ before)
+    turn_goes_on last is turns = by (subst (λ (b : Bool). Turns write_gives read_gives stand_gives left_mid left_now inbox_mid inbox taken_mid taken_now mid_count now_count mid now notes_mid notes b None) is turns)
+      where
+        by : Turns write_gives read_gives stand_gives left_mid left_now inbox_mid inbox taken_mid taken_now mid_count now_count mid now notes_mid notes (room == 1) None → SoFar left_old left_now inbox taken_old taken_now old now notes (room - 1) × (now_count ≡ before)
+        by (inl t) =
+            let on = goes_on left_old left_mid left_now inbox_mid inbox taken_old taken_mid taken_now mid_count now_count old mid now notes_mid notes room so_far some t in
+            (on.0, on.1 ∙ same_count)
+        by (inr u) = let never = u.ends in cc
+
+  -- the last of so many requests was replied to
+  pub limit_ends : (left_old left_now : Option (List ℕ)) (inbox : List ℕ) (taken_old taken_now : Option (List ℕ)) (before now_count : ℕ) (old now : S) (notes : List Note)
+      → SoFar left_old left_now inbox taken_old taken_now old now notes 0
+      → Ends write_gives read_gives stand_gives left_old left_now taken_old taken_now before now_count old notes now kind.Limit
+  limit_ends left_old left_now inbox taken_old taken_now before now_count old now notes so_far = record {
+    requests = so_far.requests;
+    output = so_far.output;
+    read = split_from left_old left_now inbox so_far.requests limit (has_read_limit left_old left_now [] inbox so_far.requests 0 so_far.read refl);
+    run = so_far.run;
+    written = so_far.written;
+  }

@@ -1,0 +1,229 @@
+ghost use Rattle.std.specs.Prelude.{◌≡◌, IfOk, Ok, codes};
+ghost use Rattle.std.specs.Option.{option_copied};
+ghost use Rattle.fd_json.specs.Body.{body_of};
+ghost use Rattle.fd_api.specs.Asks.{Asks, AsksOf, AsksWrite, AsksBody, AsksMerge, AsksSelected, AsksTime, after_of, merge_asked, ReadsSelector};
+ghost use Rattle.fd_api.specs.Faults.{body_fault, label_fault, profile_fault, batch_fault};
+ghost use Rattle.fd_api.specs.Targets.{query_of, last_value};
+
+use crate::Accepted;
+use crate::asked::Asked;
+use crate::route::{Route, method_name, method_of, route_of};
+use crate::target::{last_value, parameters, split_target};
+use fd_http::Request;
+use fd_json::{BodyFault, Fault, Parameter, read_body};
+use fd_kinds::{NoMemory, Pair, Query, RawBody, Selector, Text, Window, read_size};
+use fd_pprof::ProfileFault;
+use fd_rows::{BatchFault, LabelFault, batch};
+use fd_select::{MomentFault, SelectFault, moment, selector};
+use std::alloc::Global;
+
+fn body_fault(fault: BodyFault) -> Result<Fault, NoMemory>
+    ensures { IfOk result (λ f. body_fault fault ≡ Some f) }
+{
+    match fault {
+        BodyFault::NotJson => Ok(Fault::NotJson),
+        BodyFault::BadShape => Ok(Fault::BadShape),
+        BodyFault::BadBase64 { series, sample } => Ok(Fault::BadBase64 { series, sample }),
+        BodyFault::NoMemory => Err(NoMemory),
+    }
+}
+
+fn label_fault(series: u64, label: u64, fault: LabelFault) -> Fault
+    ensures { result ≡ label_fault series label fault }
+{
+    match fault {
+        LabelFault::BadLabelName => Fault::BadLabelName { series, label },
+        LabelFault::LongValue => Fault::LongValue { series, label },
+        LabelFault::RepeatedLabel => Fault::RepeatedLabel { series, label },
+    }
+}
+
+fn profile_fault(series: u64, sample: u64, fault: ProfileFault) -> Result<Fault, NoMemory>
+    ensures { IfOk result (λ f. profile_fault series sample fault ≡ Some f) }
+{
+    match fault {
+        ProfileFault::Compressed => Ok(Fault::Compressed { series, sample }),
+        ProfileFault::Wire { at } => Ok(Fault::Wire {
+            series,
+            sample,
+            at: at as u64,
+        }),
+        ProfileFault::StringZero => Ok(Fault::StringZero { series, sample }),
+        ProfileFault::StringIndex => Ok(Fault::StringIndex { series, sample }),
+        ProfileFault::ValueCount => Ok(Fault::ValueCount { series, sample }),
+        ProfileFault::UnknownLocation => Ok(Fault::UnknownLocation { series, sample }),
+        ProfileFault::UnknownMapping => Ok(Fault::UnknownMapping { series, sample }),
+        ProfileFault::UnknownFunction => Ok(Fault::UnknownFunction { series, sample }),
+        ProfileFault::RepeatedId => Ok(Fault::RepeatedId { series, sample }),
+        ProfileFault::NotUtf8 => Ok(Fault::NotUtf8 { series, sample }),
+        ProfileFault::TooDeep => Ok(Fault::TooDeep { series, sample }),
+        ProfileFault::LongText => Ok(Fault::LongText { series, sample }),
+        ProfileFault::NoMemory => Err(NoMemory),
+    }
+}
+
+fn batch_fault(fault: BatchFault) -> Result<Fault, NoMemory>
+    ensures { IfOk result (λ f. batch_fault fault ≡ Some f) }
+{
+    match fault {
+        BatchFault::Label {
+            series,
+            label,
+            fault,
+        } => Ok(label_fault(series, label, fault)),
+        BatchFault::NoName { series } => Ok(Fault::NoName { series }),
+        BatchFault::Profile {
+            series,
+            sample,
+            fault,
+        } => profile_fault(series, sample, fault),
+        BatchFault::Large { series, sample } => Ok(Fault::LargeBatch { series, sample }),
+        BatchFault::NoMemory => Err(NoMemory),
+    }
+}
+
+fn decide_batch(alloc: Global, body: &RawBody) -> Result<Asked, NoMemory>
+    ensures { IfOk result (AsksBody (Ok body.now)) }
+{
+    match batch(alloc, body) {
+        Ok(batch) => Ok(Asked::Write(Accepted { batch })),
+        Err(fault) => Ok(Asked::Refused(batch_fault(fault)?)),
+    }
+}
+
+fn decide_body(alloc: Global, bytes: &[u8]) -> Result<Asked, NoMemory>
+    ensures { IfOk result (AsksBody (body_of bytes.now)) }
+{
+    match read_body(alloc, bytes) {
+        Ok(body) => decide_batch(alloc, &body),
+        Err(fault) => Ok(Asked::Refused(body_fault(fault)?)),
+    }
+}
+
+fn decide_write(alloc: Global, request: &Request) -> Result<Asked, NoMemory>
+    ensures { IfOk result (AsksWrite request.now) }
+{
+    if request.encoded {
+        return Ok(Asked::Refused(Fault::Encoded));
+    }
+    decide_body(alloc, request.body.as_slice())
+}
+
+/// A time of the window, or the bound that stands where it is open.
+fn decide_time(
+    parameter: Parameter,
+    bound: i64,
+    text: Option<&Text>,
+) -> Result<Result<i64, Fault>, NoMemory>
+    ensures { IfOk result (AsksTime parameter bound (option_copied text.entry)) }
+{
+    let Some(text) = text else {
+        return Ok(Ok(bound));
+    };
+    match moment(text.as_str()) {
+        Ok(time) => Ok(Ok(time)),
+        Err(MomentFault::BadTime) => Ok(Err(Fault::BadTime { parameter })),
+        Err(MomentFault::NoMemory) => Err(NoMemory),
+    }
+}
+
+fn decide_after(text: Option<&Text>) -> Result<u64, Fault>
+    ensures { result ≡ after_of (option_copied text.entry) }
+{
+    match text {
+        None => Ok(0),
+        Some(text) => match read_size(text.as_bytes()) {
+            Some(number) if number < 1 << 63 => Ok(number),
+            _ => Err(Fault::BadAfter),
+        },
+    }
+}
+
+/// The first fault of these, or the query.
+fn merge_asked(
+    selector: Selector,
+    start: Result<i64, Fault>,
+    end: Result<i64, Fault>,
+    after: Result<u64, Fault>,
+) -> Asked
+    ensures { result ≡ merge_asked selector start end after }
+{
+    match (start, end, after) {
+        (Err(fault), _, _) => Asked::Refused(fault),
+        (Ok(_), Err(fault), _) => Asked::Refused(fault),
+        (Ok(_), Ok(_), Err(fault)) => Asked::Refused(fault),
+        (Ok(start), Ok(end), Ok(after)) => Asked::Read {
+            query: Query::Merge {
+                selector,
+                window: Window { start, end },
+            },
+            after,
+        },
+    }
+}
+
+fn decide_selected(
+    parameters: &[Pair],
+    selector: Result<Selector, SelectFault>,
+) -> Result<Asked, NoMemory>
+    ensures { IfOk result (AsksSelected parameters.now selector) }
+{
+    let selector = match selector {
+        Ok(selector) => selector,
+        Err(SelectFault::BadType) => return Ok(Asked::Refused(Fault::BadType)),
+        Err(SelectFault::BadMatcher { at }) => {
+            return Ok(Asked::Refused(Fault::BadMatcher { at: at as u64 }));
+        }
+        Err(SelectFault::NoMemory) => return Err(NoMemory),
+    };
+    let start = decide_time(Parameter::Start, i64::MIN, last_value(parameters, "start"))?;
+    let end = decide_time(Parameter::End, i64::MAX, last_value(parameters, "end"))?;
+    let after = decide_after(last_value(parameters, "after"));
+    Ok(merge_asked(selector, start, end, after))
+}
+
+/// The selector that a text spells, or its refusal.
+fn read_selector(alloc: Global, text: &str) -> Result<Result<Selector, SelectFault>, NoMemory>
+    ensures { IfOk result (ReadsSelector text.now) }
+{
+    match selector(alloc, text) {
+        Ok(selector) => Ok(Ok(selector)),
+        Err(SelectFault::NoMemory) => Err(NoMemory),
+        Err(fault) => Ok(Err(fault)),
+    }
+}
+
+fn decide_merge(alloc: Global, parameters: &[Pair]) -> Result<Asked, NoMemory>
+    ensures { IfOk result (AsksMerge parameters.now (last_value (codes "query") parameters.now)) }
+{
+    match last_value(parameters, "query") {
+        None => Ok(Asked::Refused(Fault::NoQuery)),
+        Some(text) => decide_selected(parameters, read_selector(alloc, text.as_str())?),
+    }
+}
+
+fn decide_of(alloc: Global, route: Route, request: &Request, query: &str) -> Result<Asked, NoMemory>
+    requires { query.now ≡ query_of request.now.target }
+    ensures { IfOk result (AsksOf route request.now) }
+{
+    match route {
+        Route::Write => decide_write(alloc, request),
+        Route::Merge => decide_merge(alloc, parameters(alloc, query)?.as_slice()),
+        Route::Status => Ok(Asked::Stand),
+    }
+}
+
+/// What a request asks.
+pub(crate) fn decide(alloc: Global, request: &Request) -> Result<Asked, NoMemory>
+    ensures { IfOk result (Asks request.now) }
+{
+    let (path, query) = split_target(request.target.as_str());
+    let Some(route) = route_of(path) else {
+        return Ok(Asked::Refused(Fault::NoRoute));
+    };
+    let method = method_of(route);
+    if request.method.as_slice() != method_name(method) {
+        return Ok(Asked::NotAllowed(method));
+    }
+    decide_of(alloc, route, request, query)
+}

@@ -1,0 +1,60 @@
+-- A run of the program: its words, its session, its status and the line on the error sink.
+use Rattle.std.specs.Prelude.{◌≡◌, ℕ, ◌++◌, ◌∷◌, [], ◌⊎◌, List, Option, codes}
+use Rattle.std.specs.Io.KnownBytes.{Keeps, Appends}
+use Rattle.fd_kinds.specs.Counts.{Rose}
+use Rattle.fd_kinds.specs.History.{History, Writes, Reads, Stands}
+use Rattle.fd_http.specs.Replies.{AppendsFront}
+use Rattle.fd_api.specs.declared.note.Note.{Note}
+use Rattle.fd_api.specs.declared.serving.EndKind.{EndKind}
+use Rattle.fd_api.specs.declared.serving.EndKind.TheVariants.{Ended, Closed, Limit, Cut, BadHead, NoLength, TooLarge, ReadFault, WriteFault, DiskFault, NoMemory}
+use Rattle.fd_api.specs.Sessions.{Ends, SourceCause, SinkCause}
+
+-- the words of a session
+abbrev pub session_words : List (List ℕ)
+session_words = codes "session" ∷ []
+
+abbrev pub status_of : EndKind → ℕ
+status_of Ended = 0
+status_of Closed = 0
+status_of Cut = 2
+status_of BadHead = 2
+status_of NoLength = 2
+status_of TooLarge = 2
+status_of ReadFault = 3
+status_of WriteFault = 4
+status_of DiskFault = 5
+status_of NoMemory = 7
+status_of Limit = 10
+
+abbrev pub line : List ℕ → List ℕ
+line text = text ++ 10 ∷ []
+
+-- what the error sink is told of an end
+abbrev pub line_of : EndKind → List ℕ
+line_of Ended = []
+line_of Closed = []
+line_of Cut = line (codes "frostd: input refused: Cut")
+line_of BadHead = line (codes "frostd: input refused: BadHead")
+line_of NoLength = line (codes "frostd: input refused: NoLength")
+line_of TooLarge = line (codes "frostd: input refused: TooLarge")
+line_of ReadFault = line (codes "frostd: read fault")
+line_of WriteFault = line (codes "frostd: write fault")
+line_of DiskFault = line (codes "frostd: disk fault")
+line_of NoMemory = line (codes "frostd: no memory")
+line_of Limit = line (codes "frostd: request limit")
+
+abbrev pub bad_words : List ℕ
+bad_words = line (codes "frostd: bad words")
+
+-- the error sink took the line, or a front of it where its count rose
+abbrev pub Tells : Option (List ℕ) → Option (List ℕ) → ℕ → ℕ → List ℕ → Type 0
+Tells old new before now text = (Appends old new text × (now ≡ before)) ⊎ (AppendsFront old new text × Rose before now)
+
+-- The run of a session from the history without batches: there are an end, notes and a history with which it meets what
+-- a session leaves over a history that nobody else writes.
+pub record RunsSession (left_old left_new taken_old taken_new : Option (List ℕ)) (reads_before reads_now writes_before writes_now : ℕ) (end : EndKind) : Type 0 where
+  pub notes : List Note
+  pub history : History
+  pub ends : Ends Writes Reads Stands left_old left_new taken_old taken_new writes_before writes_now [] notes history end
+  pub source : SourceCause reads_before reads_now end
+  pub sink : SinkCause writes_before writes_now end

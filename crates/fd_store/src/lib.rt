@@ -1,0 +1,6 @@
+//! The stores of batches.
+#![tactic(auto)]
+
+mod local;
+
+pub use local::Local;
