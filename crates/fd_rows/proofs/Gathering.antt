@@ -1,6 +1,6 @@
 -- Rows that are gathered piece by piece.
-use Rattle.std.proofs.Common.{◌≡◌, inl, inr, ℕ, suc, ◌+◌, ◌-◌, ◌^◌, ◌<◌, ◌≤◌, min, Bool, true, false, List, [], ◌∷◌, ◌++◌, length, get_or, drop, drop-cons, append_assoc, refl, sym, ap, ◌∙◌, subst, arith, Option, Some, None}
-use Rattle.std.specs.Prelude.{◌⊎◌, nat_lt, sum_by, slice_get}
+use Rattle.std.proofs.Common.{◌≡◌, inl, inr, ℕ, suc, ◌+◌, ◌-◌, ◌^◌, ◌<◌, ◌≤◌, min, true, false, List, [], ◌∷◌, ◌++◌, length, get_or, drop, drop-cons, append_assoc, refl, sym, ap, ◌∙◌, subst, arith, Some, None}
+use Rattle.std.specs.Prelude.{◌⊎◌, sum_by, slice_get}
 use Rattle.std.specs.List.{flat_map, zip}
 use Rattle.std.proofs.lemmas.List.{drop_all, drop-drop, append-nil}
 use Rattle.std.proofs.lemmas.List.Sums.{sum_by-append, sum_by_push}
@@ -33,7 +33,6 @@ still_large rows piece rest whole all large =
 -- one more piece is gathered
 pub more_rows : (rows piece rest whole new : List Row) → rows ++ (piece ++ rest) ≡ whole → new ≡ rows ++ piece → new ++ rest ≡ whole
 more_rows rows piece rest whole new all one = ap (λ xs. xs ++ rest) one ∙ append_assoc rows piece rest ∙ all
-
 
 -- a list from a place on begins with what stands there
 pub from_place : {A : Type 0} (xs items : List A) (i : ℕ) (x : A) → items ≡ xs → i < length items → x ≡ get_or items i x → drop i xs ≡ x ∷ drop (i + 1) xs

@@ -22,14 +22,19 @@ pub enum BatchFault {
         fault: LabelFault,
     },
     /// The series has no label `__name__`, or an empty one.
-    NoName { series: u64 },
+    NoName {
+        series: u64,
+    },
     Profile {
         series: u64,
         sample: u64,
         fault: ProfileFault,
     },
     /// With the rows of this profile the rows of the body have more than 134,217,728 bytes.
-    Large { series: u64, sample: u64 },
+    Large {
+        series: u64,
+        sample: u64,
+    },
     NoMemory,
 }
 

@@ -9,6 +9,8 @@ mod profiles;
 mod rows;
 mod series;
 mod stop;
+#[cfg(test)]
+mod tests;
 
 pub use body::batch;
 pub use faults::{BatchFault, LabelFault};

@@ -1,5 +1,4 @@
 use Rattle.std.proofs.Common.{◌≡◌, ◌++◌, true, ap, subst, ◌∙◌}
-use Rattle.fd_rows.specs.Rows.{message_rows}
 use Rattle.fd_rows.specs.Body.{is_large}
 use Rattle.fd_rows.proofs.Refused.{same_rows, message_fine, message_stopped}
 use Rattle.fd_rows.proofs.profiles.with_message.Goals as goal
