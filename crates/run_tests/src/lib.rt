@@ -1,0 +1,5 @@
+//! Worked examples over the whole program: the words, the input and its faults, and what comes out.
+#![tactic(auto)]
+
+#[cfg(test)]
+mod tests;

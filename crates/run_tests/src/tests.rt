@@ -1,0 +1,240 @@
+use fd_api::{EndKind, session};
+use fd_device::{MemSink, MemSource, PlainSource};
+use fd_kinds::{Bytes, Items, Store, Text, Texts};
+use fd_local::run;
+use fd_store::Local;
+use std::alloc::Global;
+use std::test::Fail;
+
+/// A write of one profile: the stack `main` with 10, and `work` over `main` with 20.
+const WRITE: &[u8] =
+    b"POST /profiles/writeraw HTTP/1.1\r\nHost: a\r\nContent-Length: 269\r\n\r\n{\"series\":[{\"labels\":{\"labels\":[{\"name\":\"__name__\",\"value\":\"process_cpu\"},{\"name\":\"job\",\"value\":\"api\"}]},\"samples\":[{\"rawProfile\":\"CgQIARACEgQIARAKEgYIAggBEBQiBggBIgIIASIGCAIiAggCKgQIARADKgQIAhAEMgAyA2NwdTILbmFub3NlY29uZHMyBG1haW4yBHdvcmtIgJTr3ANaBAgBEAJggK3iBA==\"}]}]}";
+
+const MERGE: &[u8] =
+    b"GET /profiles/query?query=process_cpu:cpu:nanoseconds:cpu:nanoseconds HTTP/1.1\r\n\r\n";
+
+/// The words, the pieces of the input, the read and the write that fail (0 for none), and what
+/// comes of it.
+#[derive(Drop)]
+struct Case {
+    word: Option<&'static str>,
+    first: &'static [u8],
+    second: &'static [u8],
+    third: &'static [u8],
+    failing_read: u64,
+    failing_write: u64,
+    status: u8,
+    output: &'static [u8],
+    line: &'static [u8],
+}
+
+fn words_of(alloc: Global, word: Option<&str>) -> Result<Texts, Fail> {
+    let mut words = Items::new(alloc);
+    if let Some(word) = word {
+        words.push(Text::of(alloc, word)?)?;
+    }
+    Ok(words)
+}
+
+fn input_of(alloc: Global, case: &Case) -> Result<Bytes, Fail> {
+    let mut bytes = Bytes::from_slice(alloc, case.first)?;
+    bytes.extend(case.second)?;
+    bytes.extend(case.third)?;
+    Ok(bytes)
+}
+
+fn comes_out(alloc: Global, case: &Case) -> Result<bool, Fail> {
+    let words = words_of(alloc, case.word)?;
+    let mut reads = Items::new(alloc);
+    reads.push(case.failing_read)?;
+    let mut writes = Items::new(alloc);
+    writes.push(case.failing_write)?;
+    let mut input = MemSource::new(input_of(alloc, case)?, reads)?;
+    let mut out = MemSink::new(alloc, writes)?;
+    let mut err = MemSink::new(alloc, Items::new(alloc))?;
+    let status = run(alloc, &words, &mut input, &mut out, &mut err);
+    Ok(status == case.status && out.taken() == case.output && err.taken() == case.line)
+}
+
+#[test]
+fn two_writes_are_summed(rt: HostRuntime) -> Result<(), Fail> {
+    let case = Case {
+        word: Some("session"),
+        first: WRITE,
+        second: WRITE,
+        third: MERGE,
+        failing_read: 0,
+        failing_write: 0,
+        status: 0,
+        output: b"HTTP/1.1 200 OK\r\nContent-Type: application/json\r\nContent-Length: 14\r\n\r\n{\"number\":\"1\"}HTTP/1.1 200 OK\r\nContent-Type: application/json\r\nContent-Length: 14\r\n\r\n{\"number\":\"2\"}HTTP/1.1 200 OK\r\nContent-Type: application/json\r\nContent-Length: 114\r\n\r\n{\"stacks\":[{\"frames\":[\"main\"],\"value\":\"20\"},{\"frames\":[\"work\",\"main\"],\"value\":\"40\"}],\"total\":\"60\",\"watermark\":\"2\"}",
+        line: b"",
+    };
+    assert!(rt; comes_out(rt.alloc(), &case)?);
+    Ok(())
+}
+
+#[test]
+fn an_empty_store_is_asked(rt: HostRuntime) -> Result<(), Fail> {
+    let case = Case {
+        word: Some("session"),
+        first: MERGE,
+        second: b"GET /store/status HTTP/1.1\r\n\r\n",
+        third: b"",
+        failing_read: 0,
+        failing_write: 0,
+        status: 0,
+        output: b"HTTP/1.1 200 OK\r\nContent-Type: application/json\r\nContent-Length: 41\r\n\r\n{\"stacks\":[],\"total\":\"0\",\"watermark\":\"0\"}HTTP/1.1 200 OK\r\nContent-Type: application/json\r\nContent-Length: 42\r\n\r\n{\"drawn\":\"0\",\"synced\":\"0\",\"watermark\":\"0\"}",
+        line: b"",
+    };
+    assert!(rt; comes_out(rt.alloc(), &case)?);
+    Ok(())
+}
+
+#[test]
+fn nothing_is_asked(rt: HostRuntime) -> Result<(), Fail> {
+    let case = Case {
+        word: Some("session"),
+        first: b"",
+        second: b"",
+        third: b"",
+        failing_read: 0,
+        failing_write: 0,
+        status: 0,
+        output: b"",
+        line: b"",
+    };
+    assert!(rt; comes_out(rt.alloc(), &case)?);
+    Ok(())
+}
+
+#[test]
+fn a_misspelled_word(rt: HostRuntime) -> Result<(), Fail> {
+    let case = Case {
+        word: Some("sesion"),
+        first: MERGE,
+        second: b"",
+        third: b"",
+        failing_read: 0,
+        failing_write: 0,
+        status: 1,
+        output: b"",
+        line: b"frostd: bad words\n",
+    };
+    assert!(rt; comes_out(rt.alloc(), &case)?);
+    Ok(())
+}
+
+#[test]
+fn no_words(rt: HostRuntime) -> Result<(), Fail> {
+    let case = Case {
+        word: None,
+        first: MERGE,
+        second: b"",
+        third: b"",
+        failing_read: 0,
+        failing_write: 0,
+        status: 1,
+        output: b"",
+        line: b"frostd: bad words\n",
+    };
+    assert!(rt; comes_out(rt.alloc(), &case)?);
+    Ok(())
+}
+
+#[test]
+fn the_first_read_fails(rt: HostRuntime) -> Result<(), Fail> {
+    let case = Case {
+        word: Some("session"),
+        first: MERGE,
+        second: b"",
+        third: b"",
+        failing_read: 1,
+        failing_write: 0,
+        status: 3,
+        output: b"",
+        line: b"frostd: read fault\n",
+    };
+    assert!(rt; comes_out(rt.alloc(), &case)?);
+    Ok(())
+}
+
+#[test]
+fn the_first_write_fails(rt: HostRuntime) -> Result<(), Fail> {
+    let case = Case {
+        word: Some("session"),
+        first: WRITE,
+        second: MERGE,
+        third: b"",
+        failing_read: 0,
+        failing_write: 1,
+        status: 4,
+        output: b"",
+        line: b"frostd: write fault\n",
+    };
+    assert!(rt; comes_out(rt.alloc(), &case)?);
+    Ok(())
+}
+
+#[test]
+fn the_input_is_cut_in_a_body(rt: HostRuntime) -> Result<(), Fail> {
+    let case = Case {
+        word: Some("session"),
+        first: WRITE,
+        second: b"POST /profiles/writeraw HTTP/1.1\r\nHost: a\r\nContent-Length: 269\r\n\r\n{\"series\":[{\"labels\":{\"labels\":[{\"name\":\"__name__\",\"value\":\"process_cpu\"},{\"name\":\"job\",\"value\":\"api",
+        third: b"",
+        failing_read: 0,
+        failing_write: 0,
+        status: 2,
+        output: b"HTTP/1.1 200 OK\r\nContent-Type: application/json\r\nContent-Length: 14\r\n\r\n{\"number\":\"1\"}",
+        line: b"frostd: input refused: Cut\n",
+    };
+    assert!(rt; comes_out(rt.alloc(), &case)?);
+    Ok(())
+}
+
+#[test]
+fn requests_are_refused_and_the_session_goes_on(rt: HostRuntime) -> Result<(), Fail> {
+    let case = Case {
+        word: Some("session"),
+        first: b"GET /x HTTP/1.1\r\n\r\nGET /profiles/writeraw HTTP/1.1\r\n\r\nPOST /profiles/writeraw HTTP/1.1\r\nContent-Length: 112\r\n\r\n{\"series\":[{\"labels\":{\"labels\":[{\"name\":\"__name__\",\"value\":\"process_cpu\"}]},\"samples\":[{\"rawProfile\":\"H4s=\"}]}]}GET /store/status HTTP/1.1\r\n\r\nPOST /x HTTP/1.1\r\n\r\n",
+        second: b"",
+        third: b"",
+        failing_read: 0,
+        failing_write: 0,
+        status: 2,
+        output: b"HTTP/1.1 404 Not Found\r\nContent-Type: application/json\r\nContent-Length: 19\r\n\r\n{\"error\":\"NoRoute\"}HTTP/1.1 405 Method Not Allowed\r\nContent-Type: application/json\r\nContent-Length: 21\r\nAllow: POST\r\n\r\n{\"error\":\"BadMethod\"}HTTP/1.1 422 Unprocessable Content\r\nContent-Type: application/json\r\nContent-Length: 48\r\n\r\n{\"error\":\"Compressed\",\"sample\":\"0\",\"series\":\"0\"}HTTP/1.1 200 OK\r\nContent-Type: application/json\r\nContent-Length: 42\r\n\r\n{\"drawn\":\"0\",\"synced\":\"0\",\"watermark\":\"0\"}HTTP/1.1 411 Length Required\r\nContent-Type: application/json\r\nContent-Length: 20\r\nConnection: close\r\n\r\n{\"error\":\"NoLength\"}",
+        line: b"frostd: input refused: NoLength\n",
+    };
+    assert!(rt; comes_out(rt.alloc(), &case)?);
+    Ok(())
+}
+
+#[test]
+fn queries_are_refused(rt: HostRuntime) -> Result<(), Fail> {
+    let case = Case {
+        word: Some("session"),
+        first: b"GET /profiles/query?query=process_cpu:cpu:nanoseconds:cpu HTTP/1.1\r\n\r\nGET /profiles/query?query=process_cpu:cpu:nanoseconds:cpu:nanoseconds%7Bjob=api%7D HTTP/1.1\r\n\r\nGET /profiles/query?query=process_cpu:cpu:nanoseconds:cpu:nanoseconds&start=x HTTP/1.1\r\n\r\nGET /profiles/query?query=process_cpu:cpu:nanoseconds:cpu:nanoseconds&after=-1 HTTP/1.1\r\n\r\nGET /profiles/query HTTP/1.1\r\n\r\nGET /profiles/query?query=process_cpu:cpu:nanoseconds:cpu:nanoseconds&after=9 HTTP/1.1\r\n\r\n",
+        second: b"",
+        third: b"",
+        failing_read: 0,
+        failing_write: 0,
+        status: 0,
+        output: b"HTTP/1.1 400 Bad Request\r\nContent-Type: application/json\r\nContent-Length: 19\r\n\r\n{\"error\":\"BadType\"}HTTP/1.1 400 Bad Request\r\nContent-Type: application/json\r\nContent-Length: 32\r\n\r\n{\"at\":\"48\",\"error\":\"BadMatcher\"}HTTP/1.1 400 Bad Request\r\nContent-Type: application/json\r\nContent-Length: 39\r\n\r\n{\"error\":\"BadTime\",\"parameter\":\"start\"}HTTP/1.1 400 Bad Request\r\nContent-Type: application/json\r\nContent-Length: 20\r\n\r\n{\"error\":\"BadAfter\"}HTTP/1.1 400 Bad Request\r\nContent-Type: application/json\r\nContent-Length: 19\r\n\r\n{\"error\":\"NoQuery\"}HTTP/1.1 409 Conflict\r\nContent-Type: application/json\r\nContent-Length: 32\r\n\r\n{\"drawn\":\"0\",\"error\":\"NotDrawn\"}",
+        line: b"",
+    };
+    assert!(rt; comes_out(rt.alloc(), &case)?);
+    Ok(())
+}
+
+#[test]
+fn a_write_whose_reply_fails_is_in_the_history(rt: HostRuntime) -> Result<(), Fail> {
+    let alloc = rt.alloc();
+    let mut writes = Items::new(alloc);
+    writes.push(1u64)?;
+    let mut input = PlainSource::new(Bytes::from_slice(alloc, WRITE)?)?;
+    let mut out = MemSink::new(alloc, writes)?;
+    let mut store = Local::new(alloc);
+    let end = session(alloc, &mut store, &mut input, &mut out);
+    assert!(rt; end.end == EndKind::WriteFault && store.stand().drawn == 1);
+    Ok(())
+}
