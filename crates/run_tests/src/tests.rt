@@ -1,5 +1,7 @@
 use fd_api::{EndKind, session};
-use fd_device::{MemSink, MemSource, PlainSource};
+use fd_device::{
+    MemSink, MemSource, PlainSink, PlainSource, Put, Sink, Source, StdSink, StdSource, Taken,
+};
 use fd_kinds::{Bytes, Items, Store, Text, Texts};
 use fd_local::run;
 use fd_store::Local;
@@ -236,5 +238,31 @@ fn a_write_whose_reply_fails_is_in_the_history(rt: HostRuntime) -> Result<(), Fa
     let mut store = Local::new(alloc);
     let end = session(alloc, &mut store, &mut input, &mut out);
     assert!(rt; end.end == EndKind::WriteFault && store.stand().drawn == 1);
+    Ok(())
+}
+
+#[test]
+fn a_reader_is_a_source(rt: HostRuntime) {
+    let mut source = StdSource::new(b"abc".as_slice());
+    let mut piece = [0u8; 2];
+    assert!(rt; source.read(&mut piece) == Taken::Got(2) && piece == *b"ab");
+    assert!(rt; source.read(&mut piece) == Taken::Got(1) && piece[0] == b'c');
+    assert!(rt; source.read(&mut piece) == Taken::Got(0));
+}
+
+#[test]
+fn a_writer_is_a_sink(rt: HostRuntime) {
+    let mut bytes = Vec::new(rt.alloc());
+    let mut sink = StdSink::new(&mut bytes);
+    assert!(rt; sink.write(b"ab") == Put::Done);
+    assert!(rt; sink.write(b"c") == Put::Done);
+    assert!(rt; bytes.as_slice() == b"abc".as_slice());
+}
+
+#[test]
+fn plain_memory_is_a_sink(rt: HostRuntime) -> Result<(), Fail> {
+    let mut sink = PlainSink::new(rt.alloc())?;
+    assert!(rt; sink.write(b"abc") == Put::Done);
+    assert!(rt; sink.taken() == b"abc".as_slice() && sink.starved() == 0);
     Ok(())
 }
