@@ -9,8 +9,7 @@ use Rattle.fd_store.proofs.local.LocalStore.read.Goals as goal
 pub returns-clause-gives : goal.returns-clause-gives
 returns-clause-gives c =
     let rows = rows_of_all c.self.inside.batches c.args.self.now c.self.view_is in
-    let same = ap (λ (batches : List Batch). flat_map (λ (batch : Batch). batch.rows) batches) c.as_slice.ensures in
-    (
+    let same = ap (λ (batches : List Batch). flat_map (λ (batch : Batch). batch.rows) batches) c.as_slice.ensures in (
       omega (arith, c.drawn-watermark.ensures),
       c.drawn-watermark.ensures,
       c.in_ok-answer.ensures ∙ ap (λ (rows : List Row). meaning c.args.query.now rows) (same ∙ rows),
