@@ -1,0 +1,9 @@
+pub mod Bytewise
+pub mod Loops
+pub mod Lengths
+pub mod Spelled
+pub mod Found
+pub mod Placed
+pub mod Growing
+pub mod Ending
+pub mod Fronts

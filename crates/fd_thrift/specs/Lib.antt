@@ -1,0 +1,4 @@
+pub mod Values
+pub mod View
+pub mod Spelling
+pub mod Reading
