@@ -1,5 +1,5 @@
 -- Bytes that a sink tells: one call after another.
-use Rattle.std.proofs.Common.{◌≡◌, ℕ, List, ◌++◌, None, Some, ap, ◌∙◌}
+use Rattle.std.proofs.Common.{ℕ, List, ◌++◌, None, Some, ap, ◌∙◌}
 use Rattle.std.specs.declared.option.Option.{Option}
 use Rattle.std.specs.Io.KnownBytes.{Keeps, Appends}
 use Rattle.fd_device.specs.declared.sink.Put.{Put}

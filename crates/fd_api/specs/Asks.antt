@@ -1,10 +1,9 @@
 -- What a request asks: the first refusal that holds, or a write, a query or the status of the store.
-use Rattle.std.specs.Prelude.{◌≡◌, ℕ, ℤ, pos, negsuc, ◌-◌, ◌^◌, ◌&&◌, nat_lt, nat_le, Bool, true, false, List, length, Option, Some, None, Result, Ok, Err, MatchOption, MatchBool, codes, bytes_eq, if◌then◌else◌, option_map}
+use Rattle.std.specs.Prelude.{◌≡◌, ℕ, ℤ, pos, negsuc, ◌-◌, ◌^◌, ◌&&◌, nat_lt, Bool, List, Option, Some, None, Result, Ok, Err, MatchBool, codes, bytes_eq, if◌then◌else◌}
 use Rattle.std.specs.List.Sorted.{IsPermutation}
 use Rattle.std.specs.Str.Parse.{digits_value}
 use Rattle.fd_kinds.specs.Digits.{is_size}
 use Rattle.fd_kinds.specs.declared.kinds.Pair.{Pair}
-use Rattle.fd_kinds.specs.declared.query.Query.TheVariants as query
 use Rattle.fd_kinds.specs.declared.query.Selector.{Selector}
 use Rattle.fd_kinds.specs.declared.raw.RawBody.{RawBody}
 use Rattle.fd_http.specs.declared.request.Request.{Request}
@@ -25,9 +24,14 @@ use Rattle.fd_rows.specs.Body.{body_refusal, body_rows}
 use Rattle.fd_api.specs.declared.accepted.Accepted.{Accepted}
 use Rattle.fd_api.specs.declared.asked.Asked.{Asked}
 use Rattle.fd_api.specs.declared.asked.Asked.TheVariants.{Write, Read, Stand, NotAllowed, Refused}
+use Rattle.fd_api.specs.declared.question.Question.{Question}
+use Rattle.fd_api.specs.declared.question.Question.TheVariants as question
+use Rattle.fd_api.specs.declared.route.Listing.{Listing}
+use Rattle.fd_api.specs.declared.route.Summing.{Summing}
 use Rattle.fd_api.specs.declared.route.Route.{Route}
 use Rattle.fd_api.specs.declared.route.Route.TheVariants as route
 use Rattle.fd_api.specs.Faults.{body_fault, batch_fault}
+use Rattle.fd_api.specs.Questions.{query_of}
 use Rattle.fd_api.specs.Routes.{route_of, method_of, method_name}
 use Rattle.fd_api.specs.Targets.{path_of, parameters, last_value}
 
@@ -68,11 +72,11 @@ after_of None = Ok 0
 after_of (Some text) = if is_after text then Ok (digits_value 10 text) else Err fault.BadAfter
 
 -- the first fault of these, or the query
-abbrev pub merge_asked : Selector → Result ℤ Fault → Result ℤ Fault → Result ℕ Fault → Asked
-merge_asked selector (Err f) end after = Refused f
-merge_asked selector (Ok start) (Err f) after = Refused f
-merge_asked selector (Ok start) (Ok end) (Err f) = Refused f
-merge_asked selector (Ok start) (Ok end) (Ok after) = Read (query.Merge selector (record { start = start; end = end })) after
+abbrev pub query_asked : Question → Result ℤ Fault → Result ℤ Fault → Result ℕ Fault → Asked
+query_asked question (Err f) end after = Refused f
+query_asked question (Ok start) (Err f) after = Refused f
+query_asked question (Ok start) (Ok end) (Err f) = Refused f
+query_asked question (Ok start) (Ok end) (Ok after) = Read (query_of question (record { start = start; end = end })) after
 
 -- the least and the greatest of 64 bits
 abbrev pub FIRST_TIME : ℤ
@@ -81,28 +85,48 @@ FIRST_TIME = negsuc (2 ^ 63 - 1)
 abbrev pub LAST_TIME : ℤ
 LAST_TIME = pos (2 ^ 63 - 1)
 
-abbrev pub AsksSelected : List Pair → Result Selector SelectFault → Asked → Type 0
-AsksSelected ps (Err select.BadType) asked = asked ≡ Refused fault.BadType
-AsksSelected ps (Err (select.BadMatcher at)) asked = asked ≡ Refused (fault.BadMatcher at)
-AsksSelected ps (Err select.NoMemory) asked = ⊥
-AsksSelected ps (Ok selector) asked =
+-- the window and the number that a query asks for
+abbrev pub AsksWithin : List Pair → Question → Asked → Type 0
+AsksWithin ps question asked =
     (start : Result ℤ Fault) × (end : Result ℤ Fault)
     × AsksTime Start FIRST_TIME (last_value (codes "start") ps) start
     × AsksTime End LAST_TIME (last_value (codes "end") ps) end
-    × (asked ≡ merge_asked selector start end (after_of (last_value (codes "after") ps)))
+    × (asked ≡ query_asked question start end (after_of (last_value (codes "after") ps)))
 
 -- what the text of a selector is
 abbrev pub ReadsSelector : List ℕ → Result Selector SelectFault → Type 0
 ReadsSelector text (Ok selector) = IsSelectorText text selector
 ReadsSelector text (Err f) = Refuses text f
 
-abbrev pub AsksMerge : List Pair → Option (List ℕ) → Asked → Type 0
-AsksMerge ps None asked = asked ≡ Refused fault.NoQuery
-AsksMerge ps (Some text) asked = (selector : Result Selector SelectFault) × ReadsSelector text selector × AsksSelected ps selector asked
+-- a fault of a selector
+abbrev pub IsSelectFault : SelectFault → Asked → Type 0
+IsSelectFault select.BadType asked = asked ≡ Refused fault.BadType
+IsSelectFault (select.BadMatcher at) asked = asked ≡ Refused (fault.BadMatcher at)
+IsSelectFault select.NoMemory asked = ⊥
+
+abbrev pub AsksListed : List Pair → Listing → Result Selector SelectFault → Asked → Type 0
+AsksListed ps listing (Ok selector) asked = AsksWithin ps (question.List listing (Some selector)) asked
+AsksListed ps listing (Err f) asked = IsSelectFault f asked
+
+-- a list of all series, or of those of a selector
+abbrev pub AsksList : List Pair → Listing → Option (List ℕ) → Asked → Type 0
+AsksList ps listing None asked = AsksWithin ps (question.List listing None) asked
+AsksList ps listing (Some text) asked = (selector : Result Selector SelectFault) × ReadsSelector text selector × AsksListed ps listing selector asked
+
+abbrev pub AsksSummed : List Pair → Summing → Result Selector SelectFault → Asked → Type 0
+AsksSummed ps summing (Ok selector) asked = AsksWithin ps (question.Sum summing selector) asked
+AsksSummed ps summing (Err f) asked = IsSelectFault f asked
+
+-- sums need a selector
+abbrev pub AsksSum : List Pair → Summing → Option (List ℕ) → Asked → Type 0
+AsksSum ps summing None asked = asked ≡ Refused fault.NoQuery
+AsksSum ps summing (Some text) asked = (selector : Result Selector SelectFault) × ReadsSelector text selector × AsksSummed ps summing selector asked
 
 abbrev pub AsksOf : Route → Request → Asked → Type 0
 AsksOf route.Write request asked = AsksWrite request asked
-AsksOf route.Merge request asked = AsksMerge (parameters request.target) (last_value (codes "query") (parameters request.target)) asked
+AsksOf route.Types request asked = AsksWithin (parameters request.target) question.Types asked
+AsksOf (route.List listing) request asked = AsksList (parameters request.target) listing (last_value (codes "query") (parameters request.target)) asked
+AsksOf (route.Sum summing) request asked = AsksSum (parameters request.target) summing (last_value (codes "query") (parameters request.target)) asked
 AsksOf route.Status request asked = asked ≡ Stand
 
 abbrev pub AsksRoute : Option Route → Request → Asked → Type 0

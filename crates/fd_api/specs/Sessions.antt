@@ -1,5 +1,5 @@
 -- A session: requests, what each did to the store, the bytes sent for it, and the end.
-use Rattle.std.specs.Prelude.{◌≡◌, ℕ, ◌-◌, ◌<◌, ◌≤◌, ◌⊎◌, ◌==◌, ◌||◌, Bool, true, false, List, [], ◌∷◌, ◌++◌, Option, Some, None, Result, Ok, Err, MatchOption, length, take, ⊤}
+use Rattle.std.specs.Prelude.{◌≡◌, ℕ, ◌-◌, ◌<◌, ◌≤◌, ◌⊎◌, ◌==◌, ◌||◌, Bool, true, false, List, [], ◌∷◌, ◌++◌, Option, Result, MatchOption, length, take, ⊤}
 use Rattle.std.specs.Io.KnownBytes.{Appends}
 use Rattle.fd_kinds.specs.Counts.{Rose}
 use Rattle.fd_kinds.specs.declared.row.Row.{Row}
@@ -9,7 +9,6 @@ use Rattle.fd_kinds.specs.declared.stand.Stand.{Stand}
 use Rattle.fd_kinds.specs.declared.store.WriteRefusal.{WriteRefusal}
 use Rattle.fd_kinds.specs.declared.store.ReadRefusal.{ReadRefusal}
 use Rattle.fd_http.specs.declared.request.Request.{Request}
-use Rattle.fd_http.specs.declared.request.RequestFault.{RequestFault}
 use Rattle.fd_http.specs.declared.request.RequestFault.TheVariants as head
 use Rattle.fd_http.specs.declared.send.Response.{Response}
 use Rattle.fd_http.specs.declared.send.Response.TheVariants as response

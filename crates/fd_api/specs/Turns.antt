@@ -9,7 +9,6 @@ use Rattle.fd_kinds.specs.declared.stand.Stand.{Stand}
 use Rattle.fd_kinds.specs.declared.store.WriteRefusal.{WriteRefusal}
 use Rattle.fd_kinds.specs.declared.store.ReadRefusal.{ReadRefusal}
 use Rattle.fd_http.specs.declared.request.Request.{Request}
-use Rattle.fd_http.specs.declared.request.Arrived.{Arrived}
 use Rattle.fd_http.specs.declared.request.Arrived.TheVariants as arrived
 use Rattle.fd_http.specs.declared.request.RequestFault.{RequestFault}
 use Rattle.fd_http.specs.declared.request.RequestFault.TheVariants as head

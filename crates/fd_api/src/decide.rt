@@ -1,17 +1,18 @@
 ghost use Rattle.std.specs.Prelude.{◌≡◌, IfOk, Ok, codes};
 ghost use Rattle.std.specs.Option.{option_copied};
 ghost use Rattle.fd_json.specs.Body.{body_of};
-ghost use Rattle.fd_api.specs.Asks.{Asks, AsksOf, AsksWrite, AsksBody, AsksMerge, AsksSelected, AsksTime, after_of, merge_asked, ReadsSelector};
+ghost use Rattle.fd_api.specs.Asks.{Asks, AsksRoute, AsksOf, AsksWrite, AsksBody, AsksWithin, AsksList, AsksListed, AsksSum, AsksSummed, IsSelectFault, AsksTime, after_of, query_asked, ReadsSelector};
 ghost use Rattle.fd_api.specs.Faults.{body_fault, label_fault, profile_fault, batch_fault};
 ghost use Rattle.fd_api.specs.Targets.{query_of, last_value};
 
 use crate::Accepted;
 use crate::asked::Asked;
-use crate::route::{Route, method_name, method_of, route_of};
+use crate::question::{Question, query_of};
+use crate::route::{Listing, Route, Summing, method_name, method_of, route_of};
 use crate::target::{last_value, parameters, split_target};
 use fd_http::Request;
 use fd_json::{BodyFault, Fault, Parameter, read_body};
-use fd_kinds::{NoMemory, Pair, Query, RawBody, Selector, Text, Window, read_size};
+use fd_kinds::{NoMemory, Pair, RawBody, Selector, Text, Window, read_size};
 use fd_pprof::ProfileFault;
 use fd_rows::{BatchFault, LabelFault, batch};
 use fd_select::{MomentFault, SelectFault, moment, selector};
@@ -140,46 +141,42 @@ fn decide_after(text: Option<&Text>) -> Result<u64, Fault>
 }
 
 /// The first fault of these, or the query.
-fn merge_asked(
-    selector: Selector,
+fn query_asked(
+    question: Question,
     start: Result<i64, Fault>,
     end: Result<i64, Fault>,
     after: Result<u64, Fault>,
 ) -> Asked
-    ensures { result ≡ merge_asked selector start end after }
+    ensures { result ≡ query_asked question start end after }
 {
     match (start, end, after) {
         (Err(fault), _, _) => Asked::Refused(fault),
         (Ok(_), Err(fault), _) => Asked::Refused(fault),
         (Ok(_), Ok(_), Err(fault)) => Asked::Refused(fault),
         (Ok(start), Ok(end), Ok(after)) => Asked::Read {
-            query: Query::Merge {
-                selector,
-                window: Window { start, end },
-            },
+            query: query_of(question, Window { start, end }),
             after,
         },
     }
 }
 
-fn decide_selected(
-    parameters: &[Pair],
-    selector: Result<Selector, SelectFault>,
-) -> Result<Asked, NoMemory>
-    ensures { IfOk result (AsksSelected parameters.now selector) }
+fn decide_within(parameters: &[Pair], question: Question) -> Result<Asked, NoMemory>
+    ensures { IfOk result (AsksWithin parameters.now question) }
 {
-    let selector = match selector {
-        Ok(selector) => selector,
-        Err(SelectFault::BadType) => return Ok(Asked::Refused(Fault::BadType)),
-        Err(SelectFault::BadMatcher { at }) => {
-            return Ok(Asked::Refused(Fault::BadMatcher { at: at as u64 }));
-        }
-        Err(SelectFault::NoMemory) => return Err(NoMemory),
-    };
     let start = decide_time(Parameter::Start, i64::MIN, last_value(parameters, "start"))?;
     let end = decide_time(Parameter::End, i64::MAX, last_value(parameters, "end"))?;
     let after = decide_after(last_value(parameters, "after"));
-    Ok(merge_asked(selector, start, end, after))
+    Ok(query_asked(question, start, end, after))
+}
+
+fn select_fault(fault: SelectFault) -> Result<Asked, NoMemory>
+    ensures { IfOk result (IsSelectFault fault) }
+{
+    match fault {
+        SelectFault::BadType => Ok(Asked::Refused(Fault::BadType)),
+        SelectFault::BadMatcher { at } => Ok(Asked::Refused(Fault::BadMatcher { at: at as u64 })),
+        SelectFault::NoMemory => Err(NoMemory),
+    }
 }
 
 /// The selector that a text spells, or its refusal.
@@ -193,12 +190,47 @@ fn read_selector(alloc: Global, text: &str) -> Result<Result<Selector, SelectFau
     }
 }
 
-fn decide_merge(alloc: Global, parameters: &[Pair]) -> Result<Asked, NoMemory>
-    ensures { IfOk result (AsksMerge parameters.now (last_value (codes "query") parameters.now)) }
+fn decide_listed(
+    parameters: &[Pair],
+    listing: Listing,
+    selector: Result<Selector, SelectFault>,
+) -> Result<Asked, NoMemory>
+    ensures { IfOk result (AsksListed parameters.now listing selector) }
+{
+    match selector {
+        Ok(selector) => decide_within(parameters, Question::List(listing, Some(selector))),
+        Err(fault) => select_fault(fault),
+    }
+}
+
+fn decide_list(alloc: Global, parameters: &[Pair], listing: Listing) -> Result<Asked, NoMemory>
+    ensures { IfOk result (AsksList parameters.now listing (last_value (codes "query") parameters.now)) }
+{
+    match last_value(parameters, "query") {
+        None => decide_within(parameters, Question::List(listing, None)),
+        Some(text) => decide_listed(parameters, listing, read_selector(alloc, text.as_str())?),
+    }
+}
+
+fn decide_summed(
+    parameters: &[Pair],
+    summing: Summing,
+    selector: Result<Selector, SelectFault>,
+) -> Result<Asked, NoMemory>
+    ensures { IfOk result (AsksSummed parameters.now summing selector) }
+{
+    match selector {
+        Ok(selector) => decide_within(parameters, Question::Sum(summing, selector)),
+        Err(fault) => select_fault(fault),
+    }
+}
+
+fn decide_sum(alloc: Global, parameters: &[Pair], summing: Summing) -> Result<Asked, NoMemory>
+    ensures { IfOk result (AsksSum parameters.now summing (last_value (codes "query") parameters.now)) }
 {
     match last_value(parameters, "query") {
         None => Ok(Asked::Refused(Fault::NoQuery)),
-        Some(text) => decide_selected(parameters, read_selector(alloc, text.as_str())?),
+        Some(text) => decide_summed(parameters, summing, read_selector(alloc, text.as_str())?),
     }
 }
 
@@ -208,9 +240,31 @@ fn decide_of(alloc: Global, route: Route, request: &Request, query: &str) -> Res
 {
     match route {
         Route::Write => decide_write(alloc, request),
-        Route::Merge => decide_merge(alloc, parameters(alloc, query)?.as_slice()),
+        Route::Types => decide_within(parameters(alloc, query)?.as_slice(), Question::Types),
+        Route::List(listing) => decide_list(alloc, parameters(alloc, query)?.as_slice(), listing),
+        Route::Sum(summing) => decide_sum(alloc, parameters(alloc, query)?.as_slice(), summing),
         Route::Status => Ok(Asked::Stand),
     }
+}
+
+/// What a request asks of the resource that its path names.
+fn decide_route(
+    alloc: Global,
+    route: Option<Route>,
+    request: &Request,
+    query: &str,
+) -> Result<Asked, NoMemory>
+    requires { query.now ≡ query_of request.now.target }
+    ensures { IfOk result (AsksRoute route request.now) }
+{
+    let Some(route) = route else {
+        return Ok(Asked::Refused(Fault::NoRoute));
+    };
+    let method = method_of(&route);
+    if request.method.as_slice() != method_name(method) {
+        return Ok(Asked::NotAllowed(method));
+    }
+    decide_of(alloc, route, request, query)
 }
 
 /// What a request asks.
@@ -218,12 +272,6 @@ pub(crate) fn decide(alloc: Global, request: &Request) -> Result<Asked, NoMemory
     ensures { IfOk result (Asks request.now) }
 {
     let (path, query) = split_target(request.target.as_str());
-    let Some(route) = route_of(path) else {
-        return Ok(Asked::Refused(Fault::NoRoute));
-    };
-    let method = method_of(route);
-    if request.method.as_slice() != method_name(method) {
-        return Ok(Asked::NotAllowed(method));
-    }
-    decide_of(alloc, route, request, query)
+    let route = route_of(alloc, path)?;
+    decide_route(alloc, route, request, query)
 }

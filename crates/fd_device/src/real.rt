@@ -14,7 +14,10 @@ pub struct StdSource<T> {
 
 impl<T: Read> StdSource<T> {
     /// A source that has met no fault.
-    pub fn new(reader: T) -> StdSource<T> {
+    pub fn new(reader: T) -> StdSource<T>
+        ensures reader { result.reader ≡ reader }
+        ensures none { result.faults ≡ 0 }
+    {
         StdSource { reader, faults: 0 }
     }
 }
@@ -50,7 +53,10 @@ pub struct StdSink<T> {
 
 impl<T: Write> StdSink<T> {
     /// A sink that has met no fault.
-    pub fn new(writer: T) -> StdSink<T> {
+    pub fn new(writer: T) -> StdSink<T>
+        ensures writer { result.writer ≡ writer }
+        ensures none { result.faults ≡ 0 }
+    {
         StdSink { writer, faults: 0 }
     }
 }

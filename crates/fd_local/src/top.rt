@@ -1,4 +1,4 @@
-ghost use Rattle.std.specs.Prelude.{◌≡◌, ◌≢◌, ◌↔◌, IsTrue};
+ghost use Rattle.std.specs.Prelude.{◌≡◌, ◌≢◌, ◌↔◌, IsTrue, []};
 ghost use Rattle.std.specs.Io.KnownBytes.{Keeps};
 ghost use Rattle.fd_api.specs.declared.serving.EndKind.{EndKind};
 ghost use Rattle.fd_local.specs.Runs.{session_words, status_of, line_of, bad_words, Tells, RunsSession};
@@ -6,6 +6,7 @@ ghost use Rattle.fd_local.specs.Runs.{session_words, status_of, line_of, bad_wor
 use fd_api::{EndKind, session};
 use fd_device::{Sink, Source};
 use fd_kinds::Texts;
+use fd_shelf::Shelf;
 use fd_store::Local;
 use std::alloc::Global;
 
@@ -47,10 +48,25 @@ pub fn run<S: Source, K: Sink, E: Sink>(
         tell(err, b"frostd: bad words\n");
         return 1;
     }
-    let mut store = Local::new(alloc);
-    let end = session(alloc, &mut store, input, out).end;
+    let end = serve(alloc, input, out);
     tell(err, line_of(end));
     status_of(end)
+}
+
+/// A store without batches, in memory alone.
+fn empty_store(alloc: Global) -> Local
+    ensures { result ≡ [] }
+{
+    Local::new(Shelf::new(alloc))
+}
+
+/// A session over an empty store.
+fn serve<S: Source, K: Sink>(alloc: Global, input: &mut S, out: &mut K) -> EndKind
+    ensures session { RunsSession (S.left input.old) (S.left input.new) (K.taken out.old) (K.taken out.new) (S.faults input.old) (S.faults input.new) (K.faults out.old) (K.faults out.new) result }
+    ensures memory { result ≢ EndKind.DiskFault }
+{
+    let mut store = empty_store(alloc);
+    session(alloc, &mut store, input, out).end
 }
 
 /// Whether the words are the one word `session`.

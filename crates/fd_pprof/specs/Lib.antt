@@ -4,3 +4,4 @@ pub mod Frames
 pub mod Ids
 pub mod Profile
 pub mod Sizes
+pub mod Winners

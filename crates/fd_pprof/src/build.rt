@@ -1,12 +1,15 @@
-ghost use Rattle.std.specs.Prelude.{◌≡◌, map, IfOk};
+ghost use Rattle.std.specs.Prelude.{◌≡◌, pos, not, map, IfOk};
+ghost use Rattle.std.specs.List.{list_any};
+ghost use Rattle.std.specs.Ordering.{int_eq};
 ghost use Rattle.fd_kinds.specs.LabelsOf.{labels_of};
 ghost use Rattle.fd_pprof.specs.Frames.{text};
 ghost use Rattle.fd_pprof.specs.Profile.{signed, value_type_of, pair_of, sample_of, profile_from};
 
 use crate::frames::stack_of;
 use crate::tables::Tables;
+use crate::winners::winners;
 use crate::{Profile, Sample, Samples, ValueType, ValueTypes, Wholes};
-use fd_kinds::{Items, Labels, NoMemory, Pair, Share, Text, Texts};
+use fd_kinds::{Items, Labels, NoMemory, Pair, Pairs, Share, Text, Texts};
 use fd_proto::{RawLabel, RawSample, RawType};
 use std::alloc::Global;
 
@@ -29,11 +32,7 @@ pub(crate) fn value_type(alloc: Global, texts: &Texts, raw: RawType) -> Result<V
     })
 }
 
-pub(crate) fn value_types(
-    alloc: Global,
-    texts: &Texts,
-    raw: &[RawType],
-) -> Result<ValueTypes, NoMemory>
+fn value_types(alloc: Global, texts: &Texts, raw: &[RawType]) -> Result<ValueTypes, NoMemory>
     ensures { IfOk result (λ types. types ≡ map (value_type_of texts.now) raw.now) }
 {
     let mut all = Items::new(alloc);
@@ -54,6 +53,18 @@ fn values(alloc: Global, raw: &[u64]) -> Result<Wholes, NoMemory>
     Ok(all)
 }
 
+/// Some value is not 0.
+pub(crate) fn has_value(raw: &[u64]) -> bool
+    ensures { result ≡ list_any (λ v. not (int_eq v (pos 0))) (map signed raw.now) }
+{
+    for n in raw {
+        if n.cast_signed() != 0 {
+            return true;
+        }
+    }
+    false
+}
+
 fn pair(alloc: Global, texts: &Texts, label: RawLabel) -> Result<Pair, NoMemory>
     ensures { IfOk result (λ p. p ≡ pair_of texts.now label) }
 {
@@ -63,13 +74,22 @@ fn pair(alloc: Global, texts: &Texts, label: RawLabel) -> Result<Pair, NoMemory>
     })
 }
 
-fn labels(alloc: Global, texts: &Texts, raw: &[RawLabel]) -> Result<Labels, NoMemory>
-    ensures { IfOk result (λ labels. labels ≡ labels_of (map (pair_of texts.now) raw.now)) }
+fn pairs(alloc: Global, texts: &Texts, labels: &[RawLabel]) -> Result<Pairs, NoMemory>
+    ensures { IfOk result (λ pairs. pairs ≡ map (pair_of texts.now) labels.now) }
 {
     let mut pairs = Items::new(alloc);
-    for label in raw {
+    for label in labels {
         pairs.push(pair(alloc, texts, *label)?)?;
     }
+    Ok(pairs)
+}
+
+/// The labels of a sample. Of labels that don't count no text is copied.
+fn labels(alloc: Global, tables: &Tables, raw: &[RawLabel]) -> Result<Labels, NoMemory>
+    ensures { IfOk result (λ labels. labels ≡ labels_of (map (pair_of tables.now.texts) raw.now)) }
+{
+    let winners = winners(alloc, tables, raw)?;
+    let pairs = pairs(alloc, &tables.texts, winners.as_slice())?;
     Labels::from_pairs(pairs)
 }
 
@@ -80,7 +100,7 @@ pub(crate) fn sample(alloc: Global, tables: &Tables, raw: &RawSample) -> Result<
     Ok(Sample {
         stack: stack_of(alloc, &tables.indexed, texts, raw)?,
         values: values(alloc, raw.values.as_slice())?,
-        labels: labels(alloc, texts, raw.labels.as_slice())?,
+        labels: labels(alloc, tables, raw.labels.as_slice())?,
     })
 }
 

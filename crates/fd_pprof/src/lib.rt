@@ -7,6 +7,7 @@ mod fault;
 mod frames;
 mod index;
 mod indexed;
+mod numbers;
 mod profile;
 mod reading;
 mod sizes;
@@ -15,6 +16,7 @@ mod tables;
 #[cfg(test)]
 mod tests;
 mod texts;
+mod winners;
 
 pub use fault::ProfileFault;
 pub use profile::{Profile, Sample, Samples, ValueType, ValueTypes, Wholes};

@@ -1,11 +1,15 @@
-ghost use Rattle.std.specs.Prelude.{◌≡◌, ◌-◌, ◌^◌, min, length, sum_by, slice_get, None, IfOk, MatchOption};
-ghost use Rattle.fd_kinds.specs.RowSize.{text_size};
+ghost use Rattle.std.specs.Prelude.{◌≡◌, ◌-◌, ◌^◌, pos, not, false, min, length, sum_by, slice_get, None, IfOk, MatchOption};
+ghost use Rattle.std.specs.List.{list_any};
+ghost use Rattle.std.specs.Ordering.{int_eq};
+ghost use Rattle.fd_kinds.specs.RowSize.{text_size, pair_size};
 ghost use Rattle.fd_pprof.specs.Profile.{profile_from};
+ghost use Rattle.fd_pprof.specs.Sizes.{type_size};
 
-use crate::build::{profile, sample, value_type, value_types};
+use crate::build::{has_value, profile, sample, value_type};
 use crate::sizes::stack_size;
 use crate::tables::Tables;
-use crate::{Profile, Sample, ValueType, ValueTypes};
+use crate::winners::{labels_size, type_size};
+use crate::{Profile, Sample, ValueType};
 use fd_kinds::NoMemory;
 use std::alloc::Global;
 use std::marker::Model;
@@ -33,12 +37,39 @@ impl Survey {
         Survey { tables }
     }
 
-    /// What is measured, in the order of each sample's values.
-    pub fn sample_types(&self, alloc: Global) -> Result<ValueTypes, NoMemory>
-        ensures { IfOk result (λ types. types ≡ self.now.sample_types) }
+    /// How many sample types the profile has, and so how many values each sample has.
+    pub fn kinds(&self) -> usize
+        ensures { result ≡ length self.now.sample_types }
     {
-        let types = self.tables.indexed.raw.sample_types.as_slice();
-        value_types(alloc, &self.tables.texts, types)
+        self.tables.indexed.raw.sample_types.len()
+    }
+
+    /// The bytes of both texts of the sample type at a place, and 2^64 - 1 where they are more;
+    /// 0 where there is no such sample type.
+    pub fn kind_bytes(&self, at: usize) -> u64
+        ensures { MatchOption (slice_get self.now.sample_types at) (result ≡ 0) (λ t. result ≡ type_size t) }
+    {
+        match self.tables.indexed.raw.sample_types.get(at) {
+            Some(raw) => type_size(&self.tables.texts, *raw),
+            None => 0,
+        }
+    }
+
+    /// What is measured at a place, in the order of each sample's values.
+    pub fn kind(&self, alloc: Global, at: usize) -> Result<Option<ValueType>, NoMemory>
+        ensures { IfOk result (λ t. t ≡ slice_get self.now.sample_types at) }
+    {
+        match self.tables.indexed.raw.sample_types.get(at) {
+            Some(raw) => Ok(Some(value_type(alloc, &self.tables.texts, *raw)?)),
+            None => Ok(None),
+        }
+    }
+
+    /// The bytes of both texts of the period type, and 2^64 - 1 where they are more.
+    pub fn period_type_bytes(&self) -> u64
+        ensures { result ≡ type_size self.now.period_type }
+    {
+        type_size(&self.tables.texts, self.tables.indexed.raw.period_type)
     }
 
     pub fn period_type(&self, alloc: Global) -> Result<ValueType, NoMemory>
@@ -85,6 +116,27 @@ impl Survey {
         match self.tables.indexed.raw.samples.get(at) {
             Some(raw) => stack_size(&self.tables, raw),
             None => 0,
+        }
+    }
+
+    /// The bytes of the labels of the sample at a place, each with four bytes more for its name and
+    /// for its value, and 2^64 - 1 where they are more; 0 where there is no such sample.
+    pub fn label_bytes(&self, alloc: Global, at: usize) -> Result<u64, NoMemory>
+        ensures { IfOk result (λ n. MatchOption (slice_get self.now.samples at) (n ≡ 0) (λ s. n ≡ min (sum_by pair_size s.labels.pairs) (2 ^ 64 - 1))) }
+    {
+        match self.tables.indexed.raw.samples.get(at) {
+            Some(raw) => labels_size(alloc, &self.tables, raw.labels.as_slice()),
+            None => Ok(0),
+        }
+    }
+
+    /// Whether the sample at a place has a value other than 0.
+    pub fn has_value(&self, at: usize) -> bool
+        ensures { MatchOption (slice_get self.now.samples at) (result ≡ false) (λ s. result ≡ list_any (λ v. not (int_eq v (pos 0))) s.values) }
+    {
+        match self.tables.indexed.raw.samples.get(at) {
+            Some(raw) => has_value(raw.values.as_slice()),
+            None => false,
         }
     }
 

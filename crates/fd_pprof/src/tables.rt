@@ -1,18 +1,23 @@
 ghost use Rattle.std.specs.Prelude.{◌≡◌, IfOk};
 ghost use Rattle.fd_pprof.specs.Sizes.{location_sizes};
+ghost use Rattle.fd_pprof.specs.Winners.{text_numbers};
 
 use crate::indexed::Indexed;
+use crate::numbers::numbers_of;
 use crate::sizes::sizes_of;
 use fd_kinds::{Items, NoMemory, Texts};
 use std::alloc::Global;
 
-/// A profile with its string table, and with the bytes of the frames of each location.
+/// A profile with its string table, the bytes of the frames of each location, and a number for
+/// each text, by which equal texts are told without their bytes.
 #[derive(Drop)]
 pub(crate) struct Tables {
     pub indexed: Indexed,
     pub texts: Texts,
     pub sizes: Items<u64>,
+    pub numbers: Items<usize>,
     ghost sized: { sizes ≡ location_sizes texts indexed.raw },
+    ghost numbered: { numbers ≡ text_numbers texts },
 }
 
 impl Tables {
@@ -21,10 +26,12 @@ impl Tables {
         ensures texts { IfOk result (λ tables. tables.texts ≡ texts) }
     {
         let sizes = sizes_of(alloc, &indexed, &texts)?;
+        let numbers = numbers_of(alloc, &texts)?;
         Ok(Tables {
             indexed,
             texts,
             sizes,
+            numbers,
         })
     }
 }

@@ -1,4 +1,4 @@
-use crate::{Profile, Sample, ValueType, read_profile, survey};
+use crate::{Profile, Sample, ValueType, read_profile};
 use fd_kinds::{Bytes, Items, NoMemory};
 use std::alloc::Global;
 use std::test::Fail;
@@ -128,42 +128,11 @@ fn repeated_numbers_are_packed_or_not(rt: HostRuntime) -> Result<(), Fail> {
     Ok(())
 }
 
-/// Whether the survey of the profile tells what its samples take.
-fn tells_sizes(alloc: Global) -> Result<bool, Fail> {
-    let bytes = joined(
-        alloc,
-        &[
-            &TYPES, &FIRST, &SECOND, &LOCATIONS, &FUNCTIONS, &TEXTS, &REST,
-        ],
-    )?;
-    let Ok(survey) = survey(alloc, bytes.as_slice()) else {
-        return Ok(false);
-    };
-    let types = survey.sample_types(alloc)?;
-    let period_type = survey.period_type(alloc)?;
-    let Some(second) = survey.sample(alloc, 1)? else {
-        return Ok(false);
-    };
-    Ok(
-        survey.len() == 2
-            && survey.stack_bytes(0) == 8
-            && survey.stack_bytes(1) == 16
-            && survey.value(1, 0) == Some(20)
-            && survey.value(1, 1).is_none()
-            && types.len() == 1
-            && period_type.unit.as_str() == "nanoseconds"
-            && second.stack.len() == 2
-            && survey.period() == 10_000_000
-            && survey.time_nanos() == 1_000_000_000
-            && survey.duration_nanos() == 0,
-    )
-}
-
-#[test]
-fn a_survey_tells_sizes(rt: HostRuntime) -> Result<(), Fail> {
-    assert!(rt; tells_sizes(rt.alloc())?);
-    Ok(())
-}
+// The first sample with the labels work=main, work=cpu, cpu without a text, and main=cpu.
+const LABELED: [u8; 28] = [
+    0x12, 26, 8, 1, 0x10, 10, 0x1a, 4, 8, 4, 0x10, 3, 0x1a, 4, 8, 4, 0x10, 1, 0x1a, 2, 8, 1, 0x1a,
+    4, 8, 3, 0x10, 1,
+];
 
 #[test]
 fn singular_fields_are_merged(rt: HostRuntime) -> Result<(), Fail> {
@@ -207,14 +176,9 @@ fn frames_without_functions_show_their_address(rt: HostRuntime) -> Result<(), Fa
 #[test]
 fn the_last_label_of_a_key_wins(rt: HostRuntime) -> Result<(), Fail> {
     let alloc = rt.alloc();
-    // work=main, work=cpu, cpu without a text, and main=cpu.
-    let labeled = [
-        0x12, 26, 8, 1, 0x10, 10, 0x1a, 4, 8, 4, 0x10, 3, 0x1a, 4, 8, 4, 0x10, 1, 0x1a, 2, 8, 1,
-        0x1a, 4, 8, 3, 0x10, 1,
-    ];
     let line =
         "cpu/nanoseconds; main: 10 main=cpu work=cpu; work main: 20; cpu/nanoseconds 10000000 1000000000 0";
-    assert_eq!(rt; sampled(alloc, &labeled, &SECOND)?.as_str(), line);
+    assert_eq!(rt; sampled(alloc, &LABELED, &SECOND)?.as_str(), line);
     Ok(())
 }
 

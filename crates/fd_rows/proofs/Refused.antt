@@ -12,11 +12,8 @@ use Rattle.fd_kinds.specs.RowSize.{row_size}
 use Rattle.fd_pprof.specs.declared.profile.Profile.{Profile}
 use Rattle.fd_pprof.specs.Profile.{profile_of, profile_refusal}
 use Rattle.fd_rows.specs.declared.series.Series.{Series}
-use Rattle.fd_rows.specs.declared.stop.Stop.{Stop}
-use Rattle.fd_rows.specs.declared.stop.Stop.TheVariants as stop
 use Rattle.fd_rows.specs.declared.faults.BatchFault.{BatchFault}
 use Rattle.fd_rows.specs.declared.faults.BatchFault.TheVariants as fault
-use Rattle.fd_rows.specs.Stops.{stopped}
 use Rattle.fd_rows.specs.Rows.{series_of, profile_rows, message_rows, series_rows, body_rows}
 use Rattle.fd_rows.specs.Body.{is_large, labels_refusal, name_refusal, message_refusal, messages_refusal, series_refusal, all_refusal, body_refusal}
 use Rattle.fd_rows.proofs.Gathering.{not_large, from_place}
@@ -33,13 +30,11 @@ message_fine series of at before more bytes size none is counted small =
     ap (λ o. option_or (option_map (fault.Profile series at) o) (cond (is_large (before ++ message_rows of bytes)) (Some (fault.Large series at)) None)) none
     ∙ ap (λ b. cond b (Some (fault.Large series at)) None) fine
 
-pub message_stopped : (series : ℕ) (of : Series) (at : ℕ) (before : List Row) (bytes : List ℕ) (s : Stop) (e : BatchFault) → e ≡ stopped series at s → profile_refusal bytes ≡ None
-    → (s ≢ stop.NoMemory → is_large (before ++ message_rows of bytes) ≡ true) → e ≢ fault.NoMemory → message_refusal series of at before bytes ≡ Some e
-message_stopped series of at before bytes stop.Large e is none large free =
+pub message_large : (series : ℕ) (of : Series) (at : ℕ) (before : List Row) (bytes : List ℕ) → profile_refusal bytes ≡ None → is_large (before ++ message_rows of bytes) ≡ true
+    → message_refusal series of at before bytes ≡ Some (fault.Large series at)
+message_large series of at before bytes none large =
     ap (λ o. option_or (option_map (fault.Profile series at) o) (cond (is_large (before ++ message_rows of bytes)) (Some (fault.Large series at)) None)) none
-    ∙ ap (λ b. cond b (Some (fault.Large series at)) None) (large (λ h. cc))
-    ∙ ap Some (sym is)
-message_stopped series of at before bytes stop.NoMemory e is none large free = absurd (free is)
+    ∙ ap (λ b. cond b (Some (fault.Large series at)) None) large
 
 first_part : {X : Type 0} (a b c : Option X) (e : X) → option_or a b ≡ Some e → option_or a (option_or b c) ≡ Some e
 first_part (Some x) b c e h = h

@@ -5,20 +5,10 @@ use Rattle.std.specs.Char.{is_ascii_alphabetic, is_ascii_digit}
 use Rattle.std.specs.Ordering.{is_eq}
 use Rattle.std.specs.Option.{option_or}
 use Rattle.fd_kinds.specs.declared.kinds.Pair.{Pair}
+use Rattle.fd_kinds.specs.Names.{is_label_name}
 use Rattle.fd_kinds.specs.Pairs.{text_cmp}
 use Rattle.fd_rows.specs.declared.faults.LabelFault.{LabelFault}
 use Rattle.fd_rows.specs.declared.faults.LabelFault.TheVariants.{BadLabelName, LongValue, RepeatedLabel}
-
-abbrev pub is_name_start : ℕ → Bool
-is_name_start b = is_ascii_alphabetic b || b == 95
-
-abbrev pub is_name_byte : ℕ → Bool
-is_name_byte b = is_name_start b || is_ascii_digit b
-
--- a letter or `_`, and then letters, digits and `_`, all ASCII
-abbrev pub is_label_name : List ℕ → Bool
-is_label_name [] = false
-is_label_name (b ∷ bs) = is_name_start b && list_all is_name_byte bs
 
 -- more bytes than a name or a value may have
 abbrev pub is_long : List ℕ → Bool

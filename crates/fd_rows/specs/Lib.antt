@@ -1,4 +1,4 @@
 pub mod Body
 pub mod Labels
 pub mod Rows
-pub mod Stops
+pub mod Sizes

@@ -6,6 +6,7 @@ ghost use Rattle.fd_rows.specs.Body.{series_refusal, body_refusal};
 use crate::BatchFault;
 use crate::checks::checked;
 use crate::gathered::Gathered;
+use crate::measured::Measured;
 use crate::profiles::with_messages;
 use fd_kinds::{Batch, Items, RawBody, RawSeries};
 use std::alloc::Global;
@@ -21,7 +22,8 @@ fn with_series(
     ensures ok { IfOk result (λ more. more.rows ≡ rows.rows ++ series_rows series.now) }
     ensures err { IfErr result (λ e. e ≢ BatchFault.NoMemory → series_refusal at rows.rows series.now ≡ Some e) }
 {
-    let of = checked(alloc, at, &series.labels)?;
+    let own = checked(alloc, at, &series.labels)?;
+    let of = Measured::of(alloc, own)?;
     with_messages(alloc, rows, at, &of, &series.profiles)
 }
 

@@ -4,43 +4,15 @@ ghost use Rattle.std.specs.Option.{option_or, option_map};
 ghost use Rattle.std.specs.BTreeSet.{contains};
 ghost use Rattle.fd_kinds.specs.declared.kinds.Pair.{Pair};
 ghost use Rattle.fd_kinds.specs.Pairs.{text_cmp};
-ghost use Rattle.fd_rows.specs.Labels.{is_name_start, is_name_byte, is_label_name, is_long, own_refusal, has_label, label_refusal, is_name, series_name};
+ghost use Rattle.fd_rows.specs.Labels.{is_long, own_refusal, has_label, label_refusal, is_name, series_name};
 ghost use Rattle.fd_rows.specs.Rows.{series_of};
 ghost use Rattle.fd_rows.specs.Body.{labels_refusal, name_refusal};
 
 use crate::series::Series;
 use crate::{BatchFault, LabelFault};
-use fd_kinds::{Items, Labels, NoMemory, Pair, Pairs, Share, Text};
+use fd_kinds::{Items, Labels, NoMemory, Pair, Pairs, Share, Text, is_label_name};
 use std::alloc::Global;
 use std::collections::BTreeSet;
-
-fn is_name_start(byte: u8) -> bool
-    ensures { result ≡ is_name_start byte }
-{
-    byte.is_ascii_alphabetic() || byte == b'_'
-}
-
-fn is_name_byte(byte: u8) -> bool
-    ensures { result ≡ is_name_byte byte }
-{
-    is_name_start(byte) || byte.is_ascii_digit()
-}
-
-fn are_name_bytes(bytes: &[u8]) -> bool
-    ensures { result ≡ list_all is_name_byte bytes.now }
-{
-    bytes.iter().all(|b| is_name_byte(*b))
-}
-
-/// A letter or `_`, followed by letters, digits and `_`.
-fn is_label_name(name: &[u8]) -> bool
-    ensures { result ≡ is_label_name name.now }
-{
-    match name {
-        [] => false,
-        [first, rest @ ..] => is_name_start(*first) && are_name_bytes(rest),
-    }
-}
 
 fn is_long(text: &Text) -> bool
     ensures { result ≡ is_long text.now }

@@ -5,10 +5,11 @@ mod body;
 mod checks;
 mod faults;
 mod gathered;
+mod measured;
 mod profiles;
 mod rows;
 mod series;
-mod stop;
+mod sizes;
 #[cfg(test)]
 mod tests;
 

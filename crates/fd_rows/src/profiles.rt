@@ -2,25 +2,13 @@ ghost use Rattle.std.specs.Prelude.{◌≡◌, ◌≢◌, ◌++◌, None, Some, 
 ghost use Rattle.std.specs.List.{flat_map};
 ghost use Rattle.fd_rows.specs.Rows.{message_rows};
 ghost use Rattle.fd_rows.specs.Body.{message_refusal, messages_refusal};
-ghost use Rattle.fd_rows.specs.Stops.{stopped};
 
 use crate::BatchFault;
-use crate::gathered::Gathered;
-use crate::rows::with_profile;
-use crate::series::Series;
-use crate::stop::Stop;
+use crate::gathered::{Gathered, with_survey};
+use crate::measured::Measured;
 use fd_kinds::BytesList;
-use fd_pprof::{ProfileFault, read_profile};
+use fd_pprof::{ProfileFault, survey};
 use std::alloc::Global;
-
-fn stopped(series: u64, sample: u64, stop: Stop) -> BatchFault
-    ensures { result ≡ stopped series sample stop }
-{
-    match stop {
-        Stop::Large => BatchFault::Large { series, sample },
-        Stop::NoMemory => BatchFault::NoMemory,
-    }
-}
 
 fn unread(series: u64, sample: u64, fault: ProfileFault) -> BatchFault
     ensures memory { fault ≡ ProfileFault.NoMemory → result ≡ BatchFault.NoMemory }
@@ -41,21 +29,21 @@ fn with_message(
     alloc: Global,
     rows: Gathered,
     at: u64,
-    series: &Series,
+    of: &Measured,
     sample: u64,
     bytes: &[u8],
 ) -> Result<Gathered, BatchFault>
-    ensures none { IfOk result (λ _. message_refusal at series.now sample rows.rows bytes.now ≡ None) }
-    ensures ok { IfOk result (λ more. more.rows ≡ rows.rows ++ message_rows series.now bytes.now) }
-    ensures err { IfErr result (λ e. e ≢ BatchFault.NoMemory → message_refusal at series.now sample rows.rows bytes.now ≡ Some e) }
+    ensures none { IfOk result (λ _. message_refusal at of.now.series sample rows.rows bytes.now ≡ None) }
+    ensures ok { IfOk result (λ more. more.rows ≡ rows.rows ++ message_rows of.now.series bytes.now) }
+    ensures err { IfErr result (λ e. e ≢ BatchFault.NoMemory → message_refusal at of.now.series sample rows.rows bytes.now ≡ Some e) }
 {
-    let profile = match read_profile(alloc, bytes) {
-        Ok(profile) => profile,
+    let survey = match survey(alloc, bytes) {
+        Ok(survey) => survey,
         Err(fault) => return Err(unread(at, sample, fault)),
     };
-    match with_profile(rows, series, &profile) {
-        Ok(more) => Ok(more),
-        Err(stop) => Err(stopped(at, sample, stop)),
+    match with_survey(alloc, rows, of, &survey)? {
+        Some(more) => Ok(more),
+        None => Err(BatchFault::Large { series: at, sample }),
     }
 }
 
@@ -64,16 +52,16 @@ pub(crate) fn with_messages(
     alloc: Global,
     rows: Gathered,
     at: u64,
-    series: &Series,
+    of: &Measured,
     messages: &BytesList,
 ) -> Result<Gathered, BatchFault>
-    ensures none { IfOk result (λ _. messages_refusal at series.now 0 rows.rows messages.now ≡ None) }
-    ensures ok { IfOk result (λ more. more.rows ≡ rows.rows ++ flat_map (message_rows series.now) messages.now) }
-    ensures err { IfErr result (λ e. e ≢ BatchFault.NoMemory → messages_refusal at series.now 0 rows.rows messages.now ≡ Some e) }
+    ensures none { IfOk result (λ _. messages_refusal at of.now.series 0 rows.rows messages.now ≡ None) }
+    ensures ok { IfOk result (λ more. more.rows ≡ rows.rows ++ flat_map (message_rows of.now.series) messages.now) }
+    ensures err { IfErr result (λ e. e ≢ BatchFault.NoMemory → messages_refusal at of.now.series 0 rows.rows messages.now ≡ Some e) }
 {
     let mut more = rows;
     for (i, bytes) in messages.as_slice().iter().enumerate() {
-        more = with_message(alloc, more, at, series, i as u64, bytes.as_slice())?;
+        more = with_message(alloc, more, at, of, i as u64, bytes.as_slice())?;
     }
     Ok(more)
 }

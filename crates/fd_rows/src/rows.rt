@@ -1,123 +1,131 @@
-ghost use Rattle.std.specs.Prelude.{◌≡◌, ◌≢◌, true, [], ◌∷◌, ◌++◌, drop, IfOk, IfErr};
+ghost use Rattle.std.specs.Prelude.{◌≡◌, [], ◌∷◌, ◌++◌, drop, Some, IfOk, slice_get};
 ghost use Rattle.std.specs.List.{flat_map, zip};
+ghost use Rattle.fd_pprof.specs.declared.profile.Sample.{Sample};
+ghost use Rattle.fd_pprof.specs.declared.profile.ValueType.{ValueType};
 ghost use Rattle.fd_rows.specs.Rows.{row_of, value_rows, sample_rows, profile_rows};
-ghost use Rattle.fd_rows.specs.Body.{is_large};
 
-use crate::gathered::{Gathered, LIMIT};
 use crate::series::Series;
-use crate::stop::Stop;
-use fd_kinds::{NoMemory, Row, Share, row_bytes};
-use fd_pprof::{Profile, Sample, ValueType};
+use fd_kinds::{NoMemory, Row, Rows, Share};
+use fd_pprof::{Sample, Survey, ValueType};
+use std::alloc::Global;
 
 fn row(
+    alloc: Global,
     series: &Series,
-    profile: &Profile,
+    survey: &Survey,
     sample: &Sample,
-    kind: &ValueType,
+    kind: ValueType,
     value: i64,
 ) -> Result<Row, NoMemory>
-    ensures { IfOk result (λ row. row ≡ row_of series.now profile.now sample.now kind.now value) }
+    ensures { IfOk result (λ row. row ≡ row_of series.now survey.now sample.now kind value) }
 {
+    let period = survey.period_type(alloc)?;
     Ok(Row {
         name: series.name.share()?,
-        sample_type: kind.kind.share()?,
-        sample_unit: kind.unit.share()?,
-        period_type: profile.period_type.kind.share()?,
-        period_unit: profile.period_type.unit.share()?,
+        sample_type: kind.kind,
+        sample_unit: kind.unit,
+        period_type: period.kind,
+        period_unit: period.unit,
         labels: series.labels.share()?,
-        timestamp: profile.time_nanos.div_euclid(1_000_000),
+        timestamp: survey.time_nanos().div_euclid(1_000_000),
         stack: sample.stack.share()?,
         pprof_labels: sample.labels.share()?,
-        period: profile.period,
-        duration: profile.duration_nanos,
+        period: survey.period(),
+        duration: survey.duration_nanos(),
         value,
     })
-}
-
-#[tactic(auto, using(crate::proofs::Gathering::pushed_large))]
-/// Adds a row, where the rows are within the limit with it.
-fn with_row(rows: Gathered, row: Row) -> Result<Gathered, Stop>
-    ensures ok { IfOk result (λ more. more.rows ≡ rows.rows ++ row ∷ []) }
-    ensures err { IfErr result (λ e. e ≢ Stop.NoMemory → is_large (rows.rows ++ row ∷ []) ≡ true) }
-{
-    let Gathered { mut rows, bytes } = rows;
-    let bytes = bytes.saturating_add(row_bytes(&row));
-    if bytes > LIMIT {
-        return Err(Stop::Large);
-    }
-    rows.push(row)?;
-    Ok(Gathered { rows, bytes })
 }
 
 #[tactic(auto, unfolding(crate::specs::Rows::value_rows))]
 /// Adds the row of a value, which for 0 is none.
 fn with_value(
-    rows: Gathered,
+    alloc: Global,
+    rows: Rows,
     series: &Series,
-    profile: &Profile,
+    survey: &Survey,
     sample: &Sample,
-    kind: &ValueType,
+    kind: usize,
     value: &i64,
-) -> Result<Gathered, Stop>
-    ensures ok { IfOk result (λ more. more.rows ≡ rows.rows ++ value_rows series.now profile.now sample.now (kind.now, value.now)) }
-    ensures err { IfErr result (λ e. e ≢ Stop.NoMemory → is_large (rows.rows ++ value_rows series.now profile.now sample.now (kind.now, value.now)) ≡ true) }
+) -> Result<Rows, NoMemory>
+    ensures { IfOk result (λ more. (t : ValueType) → slice_get survey.now.sample_types kind ≡ Some t → more ≡ rows ++ value_rows series.now survey.now sample.now (t, value.now)) }
 {
     let value = *value;
     if value == 0 {
         return Ok(rows);
     }
-    with_row(rows, row(series, profile, sample, kind, value)?)
+    let mut rows = rows;
+    if let Some(kind) = survey.kind(alloc, kind)? {
+        rows.push(row(alloc, series, survey, sample, kind, value)?)?;
+    }
+    Ok(rows)
 }
 
-/// Adds the row of the value at the place `at`, which is of the sample type `kind`.
+/// Adds the row of the sample for the sample type `kind`.
 fn with_kind(
-    rows: Gathered,
+    alloc: Global,
+    rows: Rows,
     series: &Series,
-    profile: &Profile,
+    survey: &Survey,
     sample: &Sample,
-    kind: &ValueType,
-    at: usize,
-) -> Result<Gathered, Stop>
-    ensures ok { IfOk result (λ more. more.rows ≡ rows.rows ++ flat_map (value_rows series.now profile.now sample.now) (zip (kind.now ∷ []) (drop at sample.now.values))) }
-    ensures err { IfErr result (λ e. e ≢ Stop.NoMemory → is_large (rows.rows ++ flat_map (value_rows series.now profile.now sample.now) (zip (kind.now ∷ []) (drop at sample.now.values))) ≡ true) }
+    kind: usize,
+) -> Result<Rows, NoMemory>
+    ensures { IfOk result (λ more. (t : ValueType) → slice_get survey.now.sample_types kind ≡ Some t
+        → more ≡ rows ++ flat_map (value_rows series.now survey.now sample.now) (zip (t ∷ []) (drop kind sample.now.values))) }
 {
-    match sample.values.get(at) {
-        Some(value) => with_value(rows, series, profile, sample, kind, value),
+    match sample.values.get(kind) {
+        Some(value) => with_value(alloc, rows, series, survey, sample, kind, value),
         None => Ok(rows),
     }
 }
 
-#[tactic(auto, unfolding(crate::specs::Rows::sample_rows))]
 /// Adds the rows of a sample.
 fn with_sample(
-    rows: Gathered,
+    alloc: Global,
+    rows: Rows,
     series: &Series,
-    profile: &Profile,
+    survey: &Survey,
     sample: &Sample,
-) -> Result<Gathered, Stop>
-    ensures ok { IfOk result (λ more. more.rows ≡ rows.rows ++ sample_rows series.now profile.now sample.now) }
-    ensures err { IfErr result (λ e. e ≢ Stop.NoMemory → is_large (rows.rows ++ sample_rows series.now profile.now sample.now) ≡ true) }
+) -> Result<Rows, NoMemory>
+    ensures { IfOk result (λ more. more ≡ rows ++ sample_rows series.now survey.now sample.now) }
 {
     let mut more = rows;
-    for (i, kind) in profile.sample_types.as_slice().iter().enumerate() {
-        more = with_kind(more, series, profile, sample, kind, i)?;
+    for kind in 0..survey.kinds() {
+        more = with_kind(alloc, more, series, survey, sample, kind)?;
     }
     Ok(more)
 }
 
-#[tactic(auto, unfolding(crate::specs::Rows::profile_rows))]
-/// Adds the rows of a profile.
-pub(crate) fn with_profile(
-    rows: Gathered,
+/// Adds the rows of the sample at a place, of which nothing is built where it has none.
+fn with_sample_at(
+    alloc: Global,
+    rows: Rows,
     series: &Series,
-    profile: &Profile,
-) -> Result<Gathered, Stop>
-    ensures ok { IfOk result (λ more. more.rows ≡ rows.rows ++ profile_rows series.now profile.now) }
-    ensures err { IfErr result (λ e. e ≢ Stop.NoMemory → is_large (rows.rows ++ profile_rows series.now profile.now) ≡ true) }
+    survey: &Survey,
+    at: usize,
+) -> Result<Rows, NoMemory>
+    ensures { IfOk result (λ more. (s : Sample) → slice_get survey.now.samples at ≡ Some s → more ≡ rows ++ sample_rows series.now survey.now s) }
+{
+    if !survey.has_value(at) {
+        return Ok(rows);
+    }
+    match survey.sample(alloc, at)? {
+        Some(sample) => with_sample(alloc, rows, series, survey, &sample),
+        None => Ok(rows),
+    }
+}
+
+/// Adds the rows of a profile.
+pub(crate) fn with_rows(
+    alloc: Global,
+    rows: Rows,
+    series: &Series,
+    survey: &Survey,
+) -> Result<Rows, NoMemory>
+    ensures { IfOk result (λ more. more ≡ rows ++ profile_rows series.now survey.now) }
 {
     let mut more = rows;
-    for sample in profile.samples.as_slice() {
-        more = with_sample(more, series, profile, sample)?;
+    for at in 0..survey.len() {
+        more = with_sample_at(alloc, more, series, survey, at)?;
     }
     Ok(more)
 }

@@ -9,7 +9,8 @@ use Rattle.fd_kinds.specs.declared.query.Matcher.{Matcher}
 use Rattle.fd_select.specs.declared.reader.Stage.{Stage}
 use Rattle.fd_select.specs.declared.reader.Stage.TheVariants.{Open, Name, Named, Bang, Operator, Quoted, Escaped, Matched, End}
 use Rattle.fd_select.specs.declared.reader.Reader.{Reader}
-use Rattle.fd_select.specs.SelectorTexts.{spaces, is_name_start, is_name_byte, is_label_name, op_text, escaped, quoted, IsMatcher, IsRest, IsList, IsBraced}
+use Rattle.fd_kinds.specs.Names.{is_name_start, is_name_byte, is_label_name}
+use Rattle.fd_select.specs.SelectorTexts.{spaces, op_text, escaped, quoted, IsMatcher, IsRest, IsList, IsBraced}
 use Rattle.fd_select.specs.Machine.{matcher, step, step_at, steps, behind_open, behind_name, in_name, behind_bang, behind_operator, in_quoted, behind_backslash, behind_matcher}
 use Rattle.fd_select.proofs.Basics.{append-nil, by_test, through, is_byte}
 

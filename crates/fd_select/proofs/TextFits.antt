@@ -9,7 +9,7 @@ use Rattle.fd_kinds.specs.declared.query.MatchOp.{MatchOp}
 use Rattle.fd_kinds.specs.declared.query.Matcher.{Matcher}
 use Rattle.fd_select.specs.declared.reader.Stage.{Stage}
 use Rattle.fd_select.specs.declared.reader.Stage.TheVariants.{Open, Name, Named, Bang, Operator, Quoted, Escaped, Matched, End}
-use Rattle.fd_select.specs.SelectorTexts.{is_name_start, is_name_byte}
+use Rattle.fd_kinds.specs.Names.{is_name_start, is_name_byte}
 use Rattle.fd_select.specs.Machine.{step_at, behind_open, behind_name, in_name, behind_bang, behind_operator, in_quoted, behind_backslash, behind_matcher, EndsText}
 use Rattle.fd_select.proofs.Basics.{by_test}
 

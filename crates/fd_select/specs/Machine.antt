@@ -7,7 +7,7 @@ use Rattle.fd_kinds.specs.declared.query.Matcher.{Matcher}
 use Rattle.fd_select.specs.declared.reader.Stage.{Stage}
 use Rattle.fd_select.specs.declared.reader.Stage.TheVariants.{Open, Name, Named, Bang, Operator, Quoted, Escaped, Matched, End}
 use Rattle.fd_select.specs.declared.reader.Reader.{Reader}
-use Rattle.fd_select.specs.SelectorTexts.{is_name_start, is_name_byte}
+use Rattle.fd_kinds.specs.Names.{is_name_start, is_name_byte}
 
 abbrev pub at : List Matcher → Stage → Option Reader
 at ms stage = Some (record { matchers = ms; stage = stage })

@@ -2,6 +2,7 @@
 use Rattle.std.specs.Prelude.{ℕ, ◌≡◌, ◌<◌, ◌≤◌, ◌==◌, ◌&&◌, ◌||◌, ◌⊎◌, Bool, false, IsTrue, if◌then◌else◌, List, [], ◌∷◌, ◌++◌, length, take, replicate, codes, IsUtf8}
 use Rattle.std.specs.Char.{is_ascii_alphabetic, is_ascii_digit}
 use Rattle.std.specs.List.{flat_map, list_all}
+use Rattle.fd_kinds.specs.Names.{is_label_name}
 use Rattle.fd_kinds.specs.declared.query.ProfileType.{ProfileType}
 use Rattle.fd_kinds.specs.declared.query.MatchOp.{MatchOp}
 use Rattle.fd_kinds.specs.declared.query.MatchOp.TheVariants.{Equal, NotEqual}
@@ -36,17 +37,6 @@ kind_parts k = k.name ∷ k.sample_type ∷ k.sample_unit ∷ k.period_type ∷ 
 
 abbrev pub spaces : ℕ → List ℕ
 spaces n = replicate n 32
-
-abbrev pub is_name_start : ℕ → Bool
-is_name_start b = is_ascii_alphabetic b || b == 95
-
-abbrev pub is_name_byte : ℕ → Bool
-is_name_byte b = is_name_start b || is_ascii_digit b
-
--- a letter or `_`, and then letters, digits and `_`, all ASCII
-abbrev pub is_label_name : List ℕ → Bool
-is_label_name [] = false
-is_label_name (b ∷ bs) = is_name_start b && list_all is_name_byte bs
 
 abbrev pub op_text : MatchOp → List ℕ
 op_text Equal = codes "="

@@ -1,7 +1,8 @@
 ghost use Rattle.std.specs.Prelude.{◌≡◌, [], ◌∷◌, ◌++◌, IfOk, IsUtf8};
-ghost use Rattle.fd_select.specs.SelectorTexts.{is_name_start, is_name_byte};
 
-use fd_kinds::{Bytes, Items, MatchOp, Matcher, Matchers, NoMemory, Text};
+use fd_kinds::{
+    Bytes, Items, MatchOp, Matcher, Matchers, NoMemory, Text, is_name_byte, is_name_start,
+};
 use std::alloc::Global;
 
 /// Where a reader stands behind the `{` of a selector.
@@ -29,18 +30,6 @@ pub(crate) enum Stage {
 pub(crate) struct Reader {
     pub(crate) matchers: Matchers,
     pub(crate) stage: Stage,
-}
-
-fn is_name_start(byte: u8) -> bool
-    ensures { result ≡ is_name_start byte }
-{
-    byte.is_ascii_alphabetic() || byte == b'_'
-}
-
-fn is_name_byte(byte: u8) -> bool
-    ensures { result ≡ is_name_byte byte }
-{
-    is_name_start(byte) || byte.is_ascii_digit()
 }
 
 fn text_of(bytes: Bytes) -> Text

@@ -1,8 +1,13 @@
-ghost use Rattle.std.specs.Prelude.{◌≡◌, [], length};
+ghost use Rattle.std.specs.Prelude.{◌≡◌, ◌<◌, ◌≤◌, ◌+◌, ◌^◌, [], ◌∷◌, ◌++◌, length, map, IfOk};
+ghost use Rattle.fd_kinds.specs.Parts.{loose_part, rows_of};
+ghost use Rattle.fd_shelf.specs.Books.{settled_parts, bytes_of, MOST_BATCH};
+ghost use Rattle.fd_store.specs.PlainParts.{plain_part};
+ghost use Rattle.fd_store.specs.Histories.{IsPlain, batches_of};
 
-use fd_answer::answer;
-use fd_kinds::{Batch, Items, Query, ReadRefusal, Seen, Stand, Store, WriteRefusal};
-use std::alloc::Global;
+use crate::PlainPart;
+use crate::answering::answer;
+use fd_kinds::{Batch, Held, NoMemory, Query, ReadRefusal, Seen, Stand, Store, WriteRefusal};
+use fd_shelf::{Picked, Shelf};
 use std::marker::Model;
 
 /// Numbers are drawn while fewer than these were.
@@ -12,38 +17,90 @@ const MOST_NUMBERS: u64 = 1 << 62;
 /// batches, of which the first has the number 1.
 #[derive(Debug, Drop)]
 pub struct Local {
-    batches: Items<Batch>,
+    shelf: Shelf<PlainPart>,
 }
 
 impl Model for Local {
-    ghost use Rattle.std.specs.Prelude.{map};
     ghost use Rattle.fd_kinds.specs.History.{History};
+    ghost use Rattle.fd_shelf.specs.Books.{settled_parts};
+    ghost use Rattle.fd_store.specs.Histories.{IsPlain, batches_of};
 
     ghost Value = { History };
 
-    ghost view = { λ s. map (λ batch. batch.rows) s.batches };
+    ghost view = { λ s. batches_of (settled_parts s.shelf.book) };
+
+    ghost invariant = { λ s. IsPlain s.shelf.book };
+}
+
+/// Adds a batch that has no number, under the number that follows the mark.
+fn add(shelf: &mut Shelf<PlainPart>, part: PlainPart)
+    requires plain { IsPlain shelf.old.book }
+    requires unnumbered { (plain_part part).lo ≡ 0 }
+    requires room { shelf.old.mark < 2 ^ 62 }
+    requires small { bytes_of (plain_part part).rows ≤ MOST_BATCH }
+    requires spare { 0 < shelf.old.spare }
+    ensures plain { IsPlain shelf.new.book }
+    ensures parts { settled_parts shelf.new.book ≡ settled_parts shelf.old.book ++ loose_part (shelf.old.mark + 1) (rows_of (plain_part part).rows) ∷ [] }
+{
+    let mut part = part;
+    part.number(shelf.mark() + 1);
+    shelf.admit(part);
+    shelf.advance();
+}
+
+/// How many batches there are.
+#[tactic(auto, using(crate::proofs::PlainBooks::book_length))]
+fn drawn(shelf: &Shelf<PlainPart>) -> u64
+    requires { IsPlain shelf.now.book }
+    ensures mark { result ≡ shelf.now.mark }
+    ensures count { result ≡ length (batches_of (settled_parts shelf.now.book)) }
+{
+    shelf.is_in_order();
+    shelf.mark()
+}
+
+/// Shares of all parts, in order.
+#[tactic(auto, using(crate::proofs::PlainBooks::upto_mark, crate::proofs::PlainBooks::whole_at_mark))]
+fn all_parts(shelf: &Shelf<PlainPart>) -> Result<Picked<PlainPart>, NoMemory>
+    requires { IsPlain shelf.now.book }
+    ensures { IfOk result (λ picked. map (λ i. plain_part i.part) picked ≡ settled_parts shelf.now.book) }
+{
+    shelf.is_in_order();
+    shelf.parts_upto(shelf.mark())
 }
 
 impl Local {
-    /// The store without batches, which takes no memory.
-    pub fn new(alloc: Global) -> Local
-        ensures { result ≡ [] }
+    /// A store over a shelf without stragglers. It takes no memory.
+    pub fn new(shelf: Shelf<PlainPart>) -> Local
+        requires { IsPlain shelf.book }
+        ensures { result ≡ batches_of (settled_parts shelf.book) }
     {
-        Local {
-            batches: Items::new(alloc),
-        }
+        Local { shelf }
     }
 
-    fn drawn(&self) -> u64
-        ensures { result ≡ length self.now }
+    /// The shelf of the store. It takes no memory.
+    pub fn close(self) -> Shelf<PlainPart>
+        ensures plain { IsPlain result.book }
+        ensures history { batches_of (settled_parts result.book) ≡ self }
     {
-        self.batches.len() as u64
+        let Local { shelf } = self;
+        shelf
     }
 }
 
 impl Store for Local {
     ghost use Rattle.std.specs.Prelude.{false};
     ghost use Rattle.fd_kinds.specs.History.{Writes, Reads, Stands};
+    ghost use Rattle.fd_kinds.specs.Stores.{alone};
+    ghost use Rattle.fd_kinds.proofs.StoreLaws.{«alone-write», «alone-read», «alone-stand»};
+
+    ghost sees = { alone };
+
+    ghost write_law = { «alone-write» };
+
+    ghost read_law = { «alone-read» };
+
+    ghost stand_law = { «alone-stand» };
 
     ghost write_gives = { Writes };
 
@@ -56,25 +113,28 @@ impl Store for Local {
     ghost has_failed = { λ _. false };
 
     fn write(&mut self, batch: Batch) -> Result<u64, WriteRefusal> {
-        let drawn = self.drawn();
+        let drawn = drawn(&self.shelf);
         if drawn >= MOST_NUMBERS {
             return Err(WriteRefusal::Spent { drawn });
         }
-        self.batches.push(batch)?;
+        let part = PlainPart::fresh(batch)?;
+        self.shelf.reserve(1)?;
+        add(&mut self.shelf, part);
         Ok(drawn + 1)
     }
 
     fn read(&mut self, after: u64, query: &Query) -> Result<Seen, ReadRefusal> {
-        let watermark = self.drawn();
+        let watermark = drawn(&self.shelf);
         if after > watermark {
             return Err(ReadRefusal::NotDrawn { drawn: watermark });
         }
-        let answer = answer(self.batches.allocator(), query, self.batches.as_slice())?;
+        let parts = all_parts(&self.shelf)?;
+        let answer = answer(parts.allocator(), query, parts.as_slice())?;
         Ok(Seen { watermark, answer })
     }
 
     fn stand(&mut self) -> Stand {
-        let drawn = self.drawn();
+        let drawn = drawn(&self.shelf);
         Stand {
             drawn,
             synced: drawn,

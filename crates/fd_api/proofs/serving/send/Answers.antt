@@ -1,4 +1,4 @@
-use Rattle.std.proofs.Common.{refl, ◌≡◌}
+use Rattle.std.proofs.Common.{refl}
 use mathlib.Core.Logic.{inr}
 use Rattle.fd_http.specs.Replies.{reply_bytes}
 use Rattle.fd_http.specs.declared.send.Response.TheVariants.{Short}

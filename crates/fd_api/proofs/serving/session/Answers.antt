@@ -1,8 +1,5 @@
 use Rattle.std.proofs.Common.{rules, refl, ◌≡◌, ◌-◌, ◌<◌, ◌+◌, [], arith, ◌∙◌}
-use Rattle.fd_api.specs.declared.note.Note.{Note}
-use Rattle.fd_api.specs.declared.serving.EndKind.TheVariants.{Limit}
-use Rattle.fd_api.specs.Sessions.{Ends}
-use Rattle.fd_api.proofs.SessionSteps.{SoFar, none_yet, turn_ends, turn_goes_on, limit_ends, last_of}
+use Rattle.fd_api.proofs.SessionSteps.{none_yet, turn_ends, turn_goes_on, limit_ends, last_of}
 use Rattle.fd_api.proofs.serving.session.Goals as goal
 
 pub loop-served-init : goal.loop-served-init

@@ -1,20 +1,32 @@
-use Rattle.std.proofs.Common.{◌≡◌, ◌++◌, true, ap, subst, ◌∙◌}
+use Rattle.std.proofs.Common.{◌≡◌, ◌++◌, true, ap, subst, ◌∙◌, Option, List}
+use Rattle.std.specs.Prelude.{MatchOption}
+use Rattle.fd_kinds.specs.declared.row.Row.{Row}
+use Rattle.fd_rows.specs.declared.gathered.Gathered.{Gathered}
+use Rattle.fd_rows.specs.Rows.{profile_rows}
 use Rattle.fd_rows.specs.Body.{is_large}
-use Rattle.fd_rows.proofs.Refused.{same_rows, message_fine, message_stopped}
+use Rattle.fd_rows.proofs.Refused.{same_rows, message_fine, message_large}
 use Rattle.fd_rows.proofs.profiles.with_message.Goals as goal
 
-pub returns-in-Ok-with_profile-clause-none : goal.returns-in-Ok-with_profile-clause-none
-returns-in-Ok-with_profile-clause-none c =
-    let more = c.in-Ok-with_profile.more in
-    let same = same_rows c.args.series.now c.args.bytes.now c.in-Ok.profile c.in-Ok.ensures.ok.1 in
-    message_fine c.args.at c.args.series.now c.args.sample c.args.rows.rows more.rows c.args.bytes.now more.bytes c.in-Ok.ensures.ok.0 (c.in-Ok-with_profile.ensures.ok ∙ ap (λ xs. c.args.rows.rows ++ xs) same) more.counted more.small
+pub returns-in-Some-clause-none : goal.returns-in-Some-clause-none
+returns-in-Some-clause-none c =
+    let of = c.args.of.now.series in
+    let before = c.args.rows.rows in
+    let more = c.in-Some.more in
+    let rows = subst (λ (o : Option Gathered). MatchOption o (is_large (before ++ profile_rows of c.in-Ok.survey) ≡ true) (λ (m : Gathered). m.rows ≡ before ++ profile_rows of c.in-Ok.survey)) c.in-Some.is c.in_ok-more.ensures in
+    message_fine c.args.at of c.args.sample before more.rows c.args.bytes.now more.bytes c.in-Ok.ensures.ok.0
+    (rows ∙ ap (λ (xs : List Row). before ++ xs) (same_rows of c.args.bytes.now c.in-Ok.survey c.in-Ok.ensures.ok.1)) more.counted more.small
 
-pub returns-in-Ok-with_profile-clause-ok : goal.returns-in-Ok-with_profile-clause-ok
-returns-in-Ok-with_profile-clause-ok c =
-    c.in-Ok-with_profile.ensures.ok ∙ ap (λ xs. c.args.rows.rows ++ xs) (same_rows c.args.series.now c.args.bytes.now c.in-Ok.profile c.in-Ok.ensures.ok.1)
+pub returns-in-Some-clause-ok : goal.returns-in-Some-clause-ok
+returns-in-Some-clause-ok c =
+    let of = c.args.of.now.series in
+    let before = c.args.rows.rows in
+    let rows = subst (λ (o : Option Gathered). MatchOption o (is_large (before ++ profile_rows of c.in-Ok.survey) ≡ true) (λ (m : Gathered). m.rows ≡ before ++ profile_rows of c.in-Ok.survey)) c.in-Some.is c.in_ok-more.ensures in
+    rows ∙ ap (λ (xs : List Row). before ++ xs) (same_rows of c.args.bytes.now c.in-Ok.survey c.in-Ok.ensures.ok.1)
 
 pub returns-clause-err : goal.returns-clause-err
 returns-clause-err c =
-    let same = same_rows c.args.series.now c.args.bytes.now c.in-Ok.profile c.in-Ok.ensures.ok.1 in
-    message_stopped c.args.at c.args.series.now c.args.sample c.args.rows.rows c.args.bytes.now c.in-Err-with_profile.stop c.stopped.result c.stopped.ensures c.in-Ok.ensures.ok.0
-    (λ free. subst (λ xs. is_large (c.args.rows.rows ++ xs) ≡ true) same (c.in-Err-with_profile.ensures.err free))
+    let of = c.args.of.now.series in
+    let before = c.args.rows.rows in
+    let large = subst (λ (o : Option Gathered). MatchOption o (is_large (before ++ profile_rows of c.in-Ok.survey) ≡ true) (λ (m : Gathered). m.rows ≡ before ++ profile_rows of c.in-Ok.survey)) c.in-None.is c.in_ok-more.ensures in
+    λ free. message_large c.args.at of c.args.sample before c.args.bytes.now c.in-Ok.ensures.ok.0
+    (subst (λ (xs : List Row). is_large (before ++ xs) ≡ true) (same_rows of c.args.bytes.now c.in-Ok.survey c.in-Ok.ensures.ok.1) large)

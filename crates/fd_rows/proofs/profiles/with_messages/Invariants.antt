@@ -6,6 +6,6 @@ use Rattle.fd_rows.proofs.profiles.with_messages.Given as goal
 
 abbrev pub invariant-loop-i : goal.invariant-loop-i
 invariant-loop-i l = record {
-  rows : l.more.rows ++ flat_map (message_rows l.series) (drop l.i l.messages) ≡ l.fn.rows.rows ++ flat_map (message_rows l.series) l.messages;
-  rest : messages_refusal l.at l.series l.i l.more.rows (drop l.i l.messages) ≡ messages_refusal l.at l.series 0 l.fn.rows.rows l.messages;
+  rows : l.more.rows ++ flat_map (message_rows l.of.series) (drop l.i l.messages) ≡ l.fn.rows.rows ++ flat_map (message_rows l.of.series) l.messages;
+  rest : messages_refusal l.at l.of.series l.i l.more.rows (drop l.i l.messages) ≡ messages_refusal l.at l.of.series 0 l.fn.rows.rows l.messages;
 }

@@ -1,29 +1,27 @@
-use Rattle.std.proofs.Common.{◌++◌, ◌∷◌, [], ◌+◌, drop, ap, sym, ◌∙◌}
+use Rattle.std.proofs.Common.{◌++◌, ◌∷◌, [], ◌+◌, ◌<◌, ◌≤◌, length, drop, ap, sym, ◌∙◌, arith}
 use Rattle.std.specs.List.{flat_map, zip}
-use Rattle.std.proofs.lemmas.Result.{err_from_is_err_and}
+use Rattle.std.proofs.lemmas.List.{append-nil}
 use Rattle.fd_rows.specs.Rows.{value_rows, sample_rows}
-use Rattle.fd_rows.proofs.Gathering.{zip_step, still_large, more_rows}
+use Rattle.fd_rows.proofs.Gathering.{stands, zip_step, more_rows, all_taken}
 use Rattle.fd_rows.proofs.rows.with_sample.Goals as goal
 
-pub returns-in_err-more-clause-err : goal.returns-in_err-more-clause-err
-returns-in_err-more-clause-err c =
-    let p = err_from_is_err_and c.from_residual.result c.from_residual.ensures.1 in
-    let f = value_rows c.args.series.now c.args.profile.now c.args.sample.now in
-    let types = c.args.profile.now.sample_types in
+pub loop-kind-preserved : goal.loop-kind-preserved
+loop-kind-preserved c =
+    let f = value_rows c.args.series.now c.args.survey.now c.args.sample.now in
+    let types = c.args.survey.now.sample_types in
     let values = c.args.sample.now.values in
-    let rows = c.loop-i.more.rows in
-    let i = c.loop-i.i in
-    let step = zip_step f types c.as_slice-kind-items.result.now values i c.kind-item.result c.as_slice-kind-items.ensures c.loop-i-test.true c.kind-item.is in
-    let all = ap (λ xs. rows ++ xs) (sym step) ∙ c.loop-i.invariant in
-    rw (p.1, p.2) (λ free. still_large rows (flat_map f (zip (c.kind-item.result ∷ []) (drop i values))) (flat_map f (zip (drop (i + 1) types) (drop (i + 1) values))) (c.args.rows.rows ++ sample_rows c.args.series.now c.args.profile.now c.args.sample.now) all (c.in_err-more.ensures.err free))
+    let rows = c.loop-kind.more in
+    let i = c.loop-kind.kind in
+    let within : i < length types = omega (arith, c.kinds-kind-end.ensures) in
+    let s = stands types i within in
+    let all = ap (λ xs. rows ++ xs) (sym (zip_step f types values i s.item s.is)) ∙ c.loop-kind.invariant in
+    more_rows rows (flat_map f (zip (s.item ∷ []) (drop i values))) (flat_map f (zip (drop (i + 1) types) (drop (i + 1) values))) (c.args.rows ++ flat_map f (zip types values)) c.in_ok-more.more all (c.in_ok-more.ensures s.item s.is)
 
-pub loop-i-preserved : goal.loop-i-preserved
-loop-i-preserved c =
-    let f = value_rows c.args.series.now c.args.profile.now c.args.sample.now in
-    let types = c.args.profile.now.sample_types in
-    let values = c.args.sample.now.values in
-    let rows = c.loop-i.more.rows in
-    let i = c.loop-i.i in
-    let step = zip_step f types c.as_slice-kind-items.result.now values i c.kind-item.result c.as_slice-kind-items.ensures c.loop-i-test.true c.kind-item.is in
-    let all = ap (λ xs. rows ++ xs) (sym step) ∙ c.loop-i.invariant in
-    more_rows rows (flat_map f (zip (c.kind-item.result ∷ []) (drop i values))) (flat_map f (zip (drop (i + 1) types) (drop (i + 1) values))) (c.args.rows.rows ++ sample_rows c.args.series.now c.args.profile.now c.args.sample.now) c.in_ok-more.more.rows all c.in_ok-more.ensures.ok
+pub returns : goal.returns
+unfolding sample_rows
+returns c =
+    let f = value_rows c.args.series.now c.args.survey.now c.args.sample.now in
+    let types = c.args.survey.now.sample_types in
+    let i = c.loop-kind.kind in
+    let past : length types ≤ i = omega (arith, c.kinds-kind-end.ensures) in
+    sym (ap (λ xs. c.loop-kind.more ++ xs) (all_taken f types (drop i c.args.sample.now.values) i past) ∙ append-nil c.loop-kind.more) ∙ c.loop-kind.invariant

@@ -1,3 +1,0 @@
-pub mod Distinct
-pub mod Grouped
-pub mod Looked

@@ -1,6 +1,0 @@
-use Rattle.std.proofs.Common.{◌≡◌, ◌++◌, map}
-use Rattle.fd_answer.proofs.Grouped.{to_sum}
-use Rattle.fd_answer.proofs.sums.listed.Given as goal
-
-abbrev pub invariant-loop-stack : goal.invariant-loop-stack
-invariant-loop-stack l = l.sums ++ map to_sum l.stack-iterator ≡ map to_sum l.fn.by_stack.entries

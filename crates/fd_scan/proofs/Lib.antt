@@ -1,0 +1,10 @@
+pub mod Distinct
+pub mod Gathering
+pub mod Grouped
+pub mod LabelKeys
+pub mod Looked
+pub mod Outcomes
+pub mod Ranged
+pub mod Recently
+pub mod Summed
+pub mod Undoing

@@ -1,0 +1,6 @@
+pub mod InOrder
+pub mod Kept
+pub mod Layouts
+pub mod Listing
+pub mod Placing
+pub mod Spans

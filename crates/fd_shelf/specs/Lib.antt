@@ -1,0 +1,5 @@
+pub mod Books
+pub mod Histories
+pub mod Layout
+pub mod Rooms
+pub mod Steps
