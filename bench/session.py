@@ -1,11 +1,12 @@
 #!/usr/bin/env python3
-"""Writes and merges per second of one session over the proved program.
+"""Requests, writes and queries per second of one session over the proved program.
 
 usage: bench/session.py [PROGRAM]     PROGRAM: default crates/frostd/out/frostd, made by `rt run`
 
-It sends 100 and then 1,000 writes of one small profile, each followed by one merge query, and prints
-the rates, and how the time per write grows from the smaller to the larger session. The program's
-start is taken off by a session without requests.
+It sends 10,000 and 50,000 requests for the status; then 100, 1,000 and 10,000 writes of one small
+profile, and queries of each kind behind them; and prints the rates, and how the time per write and
+per row of a merge grows from one size to the next. The program's start is taken off by a session
+without requests.
 """
 import base64
 import pathlib
@@ -21,7 +22,22 @@ PROFILE = base64.b64encode(bytes.fromhex(
 BODY = ('{"series":[{"labels":{"labels":[{"name":"__name__","value":"process_cpu"},'
         '{"name":"job","value":"api"}]},"samples":[{"rawProfile":"' + PROFILE + '"}]}]}').encode()
 WRITE = b'POST /profiles/writeraw HTTP/1.1\r\nContent-Length: %d\r\n\r\n' % len(BODY) + BODY
-MERGE = (b'GET /profiles/query?query=process_cpu:cpu:nanoseconds:cpu:nanoseconds HTTP/1.1\r\n\r\n')
+TYPE = b'process_cpu:cpu:nanoseconds:cpu:nanoseconds'
+
+
+def get(target):
+    return b'GET ' + target + b' HTTP/1.1\r\n\r\n'
+
+
+STATUS = get(b'/store/status')
+QUERIES = {
+    'merge': get(b'/profiles/query?query=' + TYPE),
+    'range': get(b'/profiles/query_range?query=' + TYPE),
+    'types': get(b'/profiles/types'),
+    'labels': get(b'/profiles/labels'),
+    'values': get(b'/profiles/labels/job/values'),
+    'series': get(b'/profiles/series'),
+}
 
 
 def seconds(program, requests):
@@ -38,13 +54,23 @@ def seconds(program, requests):
 def main():
     program = sys.argv[1] if len(sys.argv) > 1 else str(ROOT / 'crates/frostd/out/frostd')
     start = seconds(program, b'')
-    per_write = []
-    for count in (100, 1000):
+    for count in (10000, 50000):
+        took = max(seconds(program, STATUS * count) - start, 1e-9)
+        print(f'{count} status requests: {count / took:.0f}/s')
+    per_write, per_row = {}, {}
+    for count in (100, 1000, 10000):
         writes = max(seconds(program, WRITE * count) - start, 1e-9)
-        merged = max(seconds(program, WRITE * count + MERGE * 10) - start - writes, 1e-9)
-        per_write.append(writes / count)
-        print(f'{count} writes: {count / writes:.0f} writes/s, {10 / merged:.0f} merges/s over {2 * count} rows')
-    print(f'time per write, 1000 over 100: {per_write[1] / per_write[0]:.2f}')
+        per_write[count] = writes / count
+        print(f'{count} writes: {count / writes:.0f}/s')
+        for name, query in QUERIES.items():
+            times = 10000 // count
+            took = max(seconds(program, WRITE * count + query * times) - start - writes, 1e-9)
+            print(f'  {name}: {times / took:.0f}/s over {2 * count} rows')
+            if name == 'merge':
+                per_row[count] = took / times / (2 * count)
+    for less, more in ((100, 1000), (1000, 10000)):
+        print(f'time per write, {more} over {less}: {per_write[more] / per_write[less]:.2f}')
+        print(f'time per row of a merge, {more} over {less}: {per_row[more] / per_row[less]:.2f}')
 
 
 if __name__ == '__main__':
