@@ -1,0 +1,4 @@
+pub mod Distinct
+pub mod Meanings
+pub mod Orders
+pub mod Shuffled
