@@ -113,3 +113,18 @@ bad_only w count bytes (Err Cut) wide small fit h bad = absurd (bad.1 (cut_found
 bad_only w count bytes (Err BadRun) wide small fit h bad = refl
 bad_only w count bytes (Err OverWidth) wide small fit h bad = absurd (bad.2 (over_found w count bytes wide small fit h))
 bad_only w count bytes (Err NoMemory) wide small fit h bad = tt
+
+pub one_values : (w count : ℕ) (bytes a b : List ℕ) → 0 < w → count < 2 ^ 64 → Spells w count bytes a → Spells w count bytes b → a ≡ b
+one_values w count bytes a b wide small s t =
+    let e : (a, []) ≡ (b, []) = ok_is (a, []) (b, []) (sym (read_of w count bytes a wide small s) ∙ read_of w count bytes b wide small t) in
+    ap (λ (p : List ℕ × List ℕ). p.0) e
+
+pub spelled_not_cut : (w count : ℕ) (bytes values : List ℕ) → 0 < w → count < 2 ^ 64 → Spells w count bytes values → IsCut w count bytes → ⊥
+spelled_not_cut w count bytes values wide small s cut = was_ok Cut (values, []) (sym (read_of w count bytes values wide small s) ∙ cut_of w count bytes wide small cut)
+
+pub spelled_not_wide : (w count : ℕ) (bytes values : List ℕ) → 0 < w → count < 2 ^ 64 → Spells w count bytes values → IsOverWidth w count bytes → ⊥
+spelled_not_wide w count bytes values wide small s over = was_ok OverWidth (values, []) (sym (read_of w count bytes values wide small s) ∙ over_of w count bytes wide small over)
+
+pub cut_not_wide : (w count : ℕ) (bytes : List ℕ) → 0 < w → count < 2 ^ 64 → IsCut w count bytes → IsOverWidth w count bytes → ⊥
+cut_not_wide w count bytes wide small cut over =
+    let e : Cut ≡ OverWidth = err_is Cut OverWidth (sym (cut_of w count bytes wide small cut) ∙ over_of w count bytes wide small over) in cc

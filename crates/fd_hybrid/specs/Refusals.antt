@@ -1,4 +1,4 @@
--- What bytes are that should spell `count` values of w bits. No two of these hold of the same bytes.
+-- What bytes are that should spell `count` values of w bits: a spelling, cut, too wide, or none of these. No two hold of the same bytes (`one_reading`).
 use Rattle.std.specs.Prelude.{◌≡◌, ◌≢◌, ℕ, ◌*◌, ◌^◌, ◌<◌, ◌≤◌, List, [], ◌++◌, length, Result, Err}
 use Rattle.fd_hybrid.specs.declared.fault.HybridFault.{HybridFault}
 use Rattle.fd_hybrid.specs.declared.fault.HybridFault.TheVariants.{NoMemory}

@@ -19,7 +19,7 @@ mod unpacking;
 
 pub use fault::HybridFault;
 pub use items::{Bytes, Items, Values};
-pub use laws::one_spelling;
+pub use laws::{one_reading, one_spelling};
 pub use memory::NoMemory;
 pub use packing::pack;
 pub use unpacking::unpack;
