@@ -12,26 +12,26 @@ use Rattle.fd_shelf.specs.Histories.{batch_at, batches_from, hist, in_row_order}
 use Rattle.fd_shelf.specs.Steps.{placed}
 
 -- no row of these has a number below their range
-none_below : (number lo hi : ℕ) (rows : List Numbered) → number < lo → All (IsWithin lo hi) rows → filter (has_number number) rows ≡ []
+pub none_below : (number lo hi : ℕ) (rows : List Numbered) → number < lo → All (IsWithin lo hi) rows → filter (has_number number) rows ≡ []
 none_below number lo hi [] below within = refl
 none_below number lo hi (r ∷ rows) below within =
     let here = All-head (IsWithin lo hi) r rows within in
     let other : number < r.number = omega (arith, here.0, below) in
     grind (arith, other, none_below number lo hi rows below (All-tail (IsWithin lo hi) r rows within))
 
-abbrev rows_of_number : List PartMeaning → ℕ → List Numbered
+abbrev pub rows_of_number : List PartMeaning → ℕ → List Numbered
 rows_of_number parts number = filter (has_number number) (rows_in parts)
 
-split_rows : (number : ℕ) (ps qs : List PartMeaning) → rows_of_number (ps ++ qs) number ≡ rows_of_number ps number ++ rows_of_number qs number
+pub split_rows : (number : ℕ) (ps qs : List PartMeaning) → rows_of_number (ps ++ qs) number ≡ rows_of_number ps number ++ rows_of_number qs number
 split_rows number ps qs =
     ap (filter (has_number number)) (flat_map-append (λ (p : PartMeaning). p.rows) ps qs) ∙ filter-append (has_number number) (rows_in ps) (rows_in qs)
 
-first_rows : (number : ℕ) (p : PartMeaning) (ps : List PartMeaning) → rows_of_number (p ∷ ps) number ≡ filter (has_number number) p.rows ++ rows_of_number ps number
+pub first_rows : (number : ℕ) (p : PartMeaning) (ps : List PartMeaning) → rows_of_number (p ∷ ps) number ≡ filter (has_number number) p.rows ++ rows_of_number ps number
 first_rows number p ps =
     ap (filter (has_number number)) (flat_map-cons (λ (p : PartMeaning). p.rows) p ps) ∙ filter-append (has_number number) p.rows (rows_in ps)
 
 -- a part without rows of the number adds none
-without : (number : ℕ) (p : PartMeaning) (ps : List PartMeaning) → filter (has_number number) p.rows ≡ [] → rows_of_number (p ∷ ps) number ≡ rows_of_number ps number
+pub without : (number : ℕ) (p : PartMeaning) (ps : List PartMeaning) → filter (has_number number) p.rows ≡ [] → rows_of_number (p ∷ ps) number ≡ rows_of_number ps number
 without number p ps none = first_rows number p ps ∙ ap (λ rows. rows ++ rows_of_number ps number) none
 
 placed_rows_by : (number : ℕ) (p q : PartMeaning) (qs : List PartMeaning) (b : Bool) → filter (has_number number) p.rows ≡ [] → rows_of_number (placed p qs) number ≡ rows_of_number qs number

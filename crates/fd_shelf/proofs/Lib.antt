@@ -2,5 +2,9 @@ pub mod InOrder
 pub mod Kept
 pub mod Layouts
 pub mod Listing
+pub mod Numbers
 pub mod Placing
+pub mod Replaced
+pub mod Runs
 pub mod Spans
+pub mod Spliced

@@ -1,5 +1,5 @@
 -- What the calls of a shelf make of it.
-use Rattle.std.specs.Prelude.{ℕ, ◌+◌, ◌-◌, ◌≤◌, Bool, false, nat_lt, nat_le, ◌==◌, ◌||◌, if◌then◌else◌, List, [], ◌∷◌, ◌++◌, length, map, filter, Option, Some, None}
+use Rattle.std.specs.Prelude.{ℕ, ◌+◌, ◌-◌, ◌≤◌, Bool, false, nat_lt, nat_le, ◌==◌, ◌||◌, ◌&&◌, not, if◌then◌else◌, List, [], ◌∷◌, ◌++◌, length, map, filter, Option, Some, None}
 use Rattle.fd_kinds.specs.Parts.{PartMeaning}
 use Rattle.fd_shelf.specs.declared.span.Span.{Span}
 use Rattle.fd_shelf.specs.Books.{Book, Shelved, blocks_of, rows_in, bytes_of}
@@ -78,6 +78,14 @@ is_upto w part = nat_le part.lo w
 
 abbrev pub begins_upto : ℕ → Placed → Bool
 begins_upto w p = is_upto w p.part
+
+-- a part that is not sealed, up to a number
+abbrev pub is_level0 : ℕ → PartMeaning → Bool
+is_level0 limit part = not part.sealed && is_upto limit part
+
+-- the parts of the active block that are not sealed, up to a number
+abbrev pub level0 : Book → ℕ → List Placed
+level0 book limit = map (placed_in (length book.closed)) (filter (is_level0 limit) book.active)
 
 -- the parts of the blocks up to a number
 abbrev pub parts_upto : Book → ℕ → List Placed

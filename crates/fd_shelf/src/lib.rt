@@ -4,6 +4,7 @@
 
 mod blocks;
 mod picked;
+mod replacing;
 mod room;
 mod shelf;
 mod span;
@@ -12,5 +13,6 @@ mod tests;
 mod waiting;
 
 pub use picked::{InBlock, Picked};
+pub use replacing::NotReplaced;
 pub use shelf::Shelf;
 pub use span::Span;

@@ -1,13 +1,15 @@
-ghost use Rattle.std.specs.Prelude.{◌≡◌, ◌≢◌, ℕ, [], ◌+◌, ◌<◌, ◌≤◌, ◌^◌, false, true, if◌then◌else◌, length, map, filter, IfOk, OnOk, OnErr};
+ghost use Rattle.std.specs.Prelude.{◌≡◌, ◌≢◌, ℕ, [], ◌+◌, ◌<◌, ◌≤◌, ◌^◌, false, true, if◌then◌else◌, length, map, filter, IfOk, IfErr, OnOk, OnErr};
 ghost use Rattle.std.specs.Prelude.{slice_get};
 ghost use Rattle.fd_shelf.specs.Books.{Shelved, IsBook, Each, IsLoose, IsSealed, IsLight, HasSmallBatches, MOST_BATCH, blocks_of, settled_parts, all_parts, rows_in, bytes_of};
 ghost use Rattle.fd_shelf.specs.Histories.{hist};
-ghost use Rattle.fd_shelf.specs.Steps.{empty_book, admitted, advanced, appended, has_next, is_full, span_of, parts_upto, placed_in, is_upto, IsWholeAt};
+ghost use Rattle.fd_shelf.specs.Steps.{empty_book, admitted, advanced, appended, has_next, is_full, span_of, parts_upto, level0, placed_in, is_upto, IsWholeAt};
+ghost use Rattle.fd_shelf.specs.Replacing.{IsInOrder, IsChanged, HasRowsOf, HandsBack, replaced};
 
 use crate::blocks::Blocks;
+use crate::replacing::place_of_run;
 use crate::span::span_of;
 use crate::waiting::wait;
-use crate::{Picked, Span};
+use crate::{NotReplaced, Picked, Span};
 use fd_kinds::{Held, NoMemory};
 use std::alloc::Global;
 use std::collections::VecDeque;
@@ -195,5 +197,46 @@ impl<P: Held> Shelf<P> {
     {
         let picked = self.blocks.pick_upto(w)?;
         Ok(picked)
+    }
+
+    /// Shares of the parts of the active block that are not sealed and hold a number up to the
+    /// limit, in order. It costs no copy of rows.
+    pub fn level0(&self, limit: u64) -> Result<Picked<P>, NoMemory>
+        ensures { IfOk result (λ picked. map (λ i. placed_in i.block (P.means i.part)) picked ≡ level0 self.now.book limit) }
+    {
+        let picked = self.blocks.level0(limit)?;
+        Ok(picked)
+    }
+
+    /// Puts a sealed part in place of the parts that hold the numbers from `lo` to `hi` in the
+    /// active block `block` and are not sealed. It takes no memory.
+    pub fn replace(&mut self, block: u64, lo: u64, hi: u64, part: P) -> Result<(), NotReplaced<P>>
+        requires sealed { IsSealed (P.means part) }
+        requires lo { (P.means part).lo ≡ lo }
+        requires hi { (P.means part).hi ≡ hi }
+        requires rows { HasRowsOf (all_parts self.old.book) (P.means part) }
+
+        // The part stands in the active block where no number is changed, and all else stays.
+        ensures replaced { OnOk result (self.new ≡ replaced (P.means part) self.old) }
+        ensures active { OnOk result (block ≡ length self.old.book.closed) }
+        ensures free { OnOk result ((n : ℕ) → IsChanged lo hi self.old.book.active n → ⊥) }
+        ensures cause { IfErr result (λ why. HandsBack self.old.book block lo hi part why) }
+        ensures unchanged { OnErr result (self.new ≡ self.old) }
+        ensures history { (m : ℕ) → hist self.new.book m ≡ hist self.old.book m }
+    {
+        let active = self.blocks.closed();
+        if block != active {
+            return Err(NotReplaced::Overtaken {
+                block: active,
+                part,
+            });
+        }
+        match place_of_run(self.blocks.active(), self.mark, lo, hi) {
+            Ok(at) => {
+                self.blocks.put_over(at, (hi - lo) as usize + 1, part);
+                Ok(())
+            }
+            Err(at) => Err(NotReplaced::Changed { at, part }),
+        }
     }
 }
