@@ -1,5 +1,5 @@
 -- What no call changes of the history up to the mark.
-use Rattle.std.specs.Prelude.{◌≡◌, ◌≢◌, ℕ, zero, suc, ◌+◌, ◌≤◌, ◌<◌, Bool, true, false, nat_lt, ◌==◌, if◌then◌else◌, List, [], ◌∷◌, ◌++◌, map, filter, flat_map, All, refl}
+use Rattle.std.specs.Prelude.{◌≡◌, ℕ, zero, suc, ◌+◌, ◌≤◌, ◌<◌, Bool, true, false, nat_lt, if◌then◌else◌, List, [], ◌∷◌, ◌++◌, filter, flat_map, All, refl}
 use Rattle.std.proofs.Common.{arith, ap, sym, ◌∙◌}
 use Rattle.std.proofs.lemmas.List.{append-nil, append_assoc}
 use Rattle.std.proofs.lemmas.List.Elements.{All-head, All-tail, filter-append}
@@ -7,7 +7,7 @@ use Rattle.std.proofs.lemmas.List.Concat.{flat_map-cons}
 use Rattle.std.proofs.lemmas.Grind.{flat_map-append}
 use Rattle.fd_kinds.specs.declared.row.Numbered.{Numbered}
 use Rattle.fd_kinds.specs.Parts.{PartMeaning, IsPart, IsWithin, rows_of}
-use Rattle.fd_shelf.specs.Books.{Book, all_parts, settled_parts, rows_in, has_number}
+use Rattle.fd_shelf.specs.Books.{Book, all_parts, rows_in, has_number}
 use Rattle.fd_shelf.specs.Histories.{batch_at, batches_from, hist, in_row_order}
 use Rattle.fd_shelf.specs.Steps.{placed}
 

@@ -1,15 +1,13 @@
 -- A sealed part in place of the parts of its range: the book stays in order, and the history stays.
-use Rattle.std.specs.Prelude.{◌≡◌, ◌⊎◌, ℕ, zero, suc, ◌+◌, ◌-◌, ◌≤◌, ◌<◌, ◌^◌, Bool, true, false, nat_lt, ◌==◌, if◌then◌else◌, List, [], ◌∷◌, ◌++◌, length, take, drop, filter, flat_map, All, IsPermutation, refl}
+use Rattle.std.specs.Prelude.{◌≡◌, ◌⊎◌, ℕ, zero, suc, ◌+◌, ◌-◌, ◌≤◌, ◌<◌, Bool, true, false, nat_lt, if◌then◌else◌, List, [], ◌∷◌, ◌++◌, length, take, drop, filter, flat_map, All, IsPermutation, refl}
 use Rattle.std.proofs.Common.{arith, ap, sym, ◌∙◌, subst, inl, inr, ⊎_elim, true≢false}
 use Rattle.std.proofs.lemmas.List.{append-nil, append_assoc, take-append-drop, drop-drop}
 use Rattle.std.proofs.lemmas.List.Elements.{All-head, All-tail, All-nil, All-append, filter-append}
 use Rattle.std.proofs.lemmas.List.Concat.{flat_map-cons}
-use Rattle.std.proofs.lemmas.Grind.{flat_map-append}
 use Rattle.std.proofs.lemmas.Bool.{cases_lt}
 use Rattle.fd_kinds.specs.declared.row.Numbered.{Numbered}
-use Rattle.fd_kinds.specs.RowSize.{row_size}
 use Rattle.fd_kinds.specs.Parts.{PartMeaning, IsPart, IsWithin, rows_of}
-use Rattle.fd_shelf.specs.Books.{Book, IsBook, Each, Follows, Waits, IsLoose, IsSealed, IsLight, SealedFirst, HasSmallBatches, MOST_BATCH, has_number, all_parts, rows_in, bytes_of}
+use Rattle.fd_shelf.specs.Books.{IsBook, Each, Follows, Waits, IsLoose, IsSealed, IsLight, SealedFirst, HasSmallBatches, MOST_BATCH, has_number, all_parts, rows_in, bytes_of}
 use Rattle.fd_shelf.specs.Histories.{batch_at, batches_from, hist, in_row_order}
 use Rattle.fd_shelf.specs.Layout.{put_at}
 use Rattle.fd_shelf.specs.Replacing.{HasRowsOf, IsInOrder, IsRunAt, ends_below, begins_above, put_over}
@@ -17,7 +15,7 @@ use Rattle.fd_shelf.proofs.InOrder.{each_append, each_front, each_back}
 use Rattle.fd_shelf.proofs.Kept.{none_below, rows_of_number, split_rows, first_rows, without}
 use Rattle.fd_shelf.proofs.Numbers.{same_in_order, same_in_range, same_bytes, same_count}
 use Rattle.fd_shelf.proofs.Spliced.{cut, rows_in_append, bytes_append}
-use Rattle.fd_shelf.proofs.Runs.{Meets, follows_split, follows_join, follows_upto, sealed_back}
+use Rattle.fd_shelf.proofs.Runs.{follows_split, follows_join, follows_upto}
 
 if_true : {A : Type 0} (b : Bool) (x y : A) → b ≡ true → (if b then x else y) ≡ x
 if_true b x y e = rw e refl
@@ -373,20 +371,20 @@ put_over_is_put_at active mark lo hi at part order run ordered is_lo is_hi =
     let back = drop count behind in
     let both : middle ++ back ≡ behind = take-append-drop count behind in
     let below : filter (ends_below part.lo) active ≡ front =
-        ap (filter (ends_below part.lo)) (sym whole)
-        ∙ filter-append (ends_below part.lo) front behind
-        ∙ ap (λ ps. ps ++ filter (ends_below part.lo) behind) (ends_all order.first meets.mid part.lo front meets.front (omega (arith, next, is_lo)))
-        ∙ ap (λ ps. front ++ ps) (ends_none lo mark part.lo behind run.follows (omega (arith, is_lo)))
-        ∙ append-nil front in
+    ap (filter (ends_below part.lo)) (sym whole)
+    ∙ filter-append (ends_below part.lo) front behind
+    ∙ ap (λ ps. ps ++ filter (ends_below part.lo) behind) (ends_all order.first meets.mid part.lo front meets.front (omega (arith, next, is_lo)))
+    ∙ ap (λ ps. front ++ ps) (ends_none lo mark part.lo behind run.follows (omega (arith, is_lo)))
+    ∙ append-nil front in
     let above_behind : filter (begins_above part.hi) behind ≡ back =
-        ap (filter (begins_above part.hi)) (sym both)
-        ∙ filter-append (begins_above part.hi) middle back
-        ∙ ap (λ ps. ps ++ filter (begins_above part.hi) back) (above_none lo hi part.hi middle runs.0 (omega (arith, is_hi)))
-        ∙ above_all (hi + 1) mark part.hi back runs.1 (omega (arith, is_hi)) in
+    ap (filter (begins_above part.hi)) (sym both)
+    ∙ filter-append (begins_above part.hi) middle back
+    ∙ ap (λ ps. ps ++ filter (begins_above part.hi) back) (above_none lo hi part.hi middle runs.0 (omega (arith, is_hi)))
+    ∙ above_all (hi + 1) mark part.hi back runs.1 (omega (arith, is_hi)) in
     let above : filter (begins_above part.hi) active ≡ drop (at + count) active =
-        ap (filter (begins_above part.hi)) (sym whole)
-        ∙ filter-append (begins_above part.hi) front behind
-        ∙ ap (λ ps. ps ++ filter (begins_above part.hi) behind) (above_none order.first meets.mid part.hi front meets.front (omega (arith, next, ordered, is_hi)))
-        ∙ above_behind
-        ∙ drop-drop count at active in
+    ap (filter (begins_above part.hi)) (sym whole)
+    ∙ filter-append (begins_above part.hi) front behind
+    ∙ ap (λ ps. ps ++ filter (begins_above part.hi) behind) (above_none order.first meets.mid part.hi front meets.front (omega (arith, next, ordered, is_hi)))
+    ∙ above_behind
+    ∙ drop-drop count at active in
     ap (λ ps. ps ++ part ∷ drop (at + count) active) (sym below) ∙ ap (λ ps. filter (ends_below part.lo) active ++ part ∷ ps) (sym above)

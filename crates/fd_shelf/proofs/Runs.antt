@@ -1,5 +1,5 @@
 -- The numbers of the parts that are not sealed, and where a range of them stands.
-use Rattle.std.specs.Prelude.{◌≡◌, ◌⊎◌, ℕ, zero, suc, ◌+◌, ◌-◌, ◌≤◌, ◌<◌, Bool, true, false, List, [], ◌∷◌, ◌++◌, length, take, drop, map, flat_map, slice_index_or, refl}
+use Rattle.std.specs.Prelude.{◌≡◌, ℕ, ◌+◌, ◌-◌, ◌≤◌, ◌<◌, List, [], ◌∷◌, ◌++◌, length, take, drop, map, flat_map, slice_index_or}
 use Rattle.std.proofs.Common.{arith, ap, sym, ◌∙◌, inl, inr, ⊎_elim, true≢false}
 use Rattle.std.proofs.lemmas.List.{take-append-drop, take-map, drop-map, drop_more, length-drop}
 use Rattle.std.proofs.lemmas.Bool.{cases_lt}
@@ -128,9 +128,9 @@ least_where_sealed lo hi parts sealed ordered =
     record {
       here = inr (omega arith, ordered, in_sealed lo parts sealed);
       below = λ m less changed. ⊎_elim
-      (λ (under : (m < lo) × IsInLoose m parts). in_sealed m parts sealed under.1)
-      (λ (within : (lo ≤ m) × (m ≤ hi) × (IsInLoose m parts → ⊥)). absurd (omega (arith, less, within.0)))
-      changed;
+          (λ (under : (m < lo) × IsInLoose m parts). in_sealed m parts sealed under.1)
+          (λ (within : (lo ≤ m) × (m ≤ hi) × (IsInLoose m parts → ⊥)). absurd (omega (arith, less, within.0)))
+          changed;
     }
 
 -- The first that is not sealed is below the range.
@@ -139,9 +139,9 @@ least_below lo hi mark at first parts loose less =
     record {
       here = inl (less, loose.all first (omega arith) loose.upto);
       below = λ m smaller changed. ⊎_elim
-      (λ (under : (m < lo) × IsInLoose m parts). let only = loose.only m under.1 in absurd (omega (arith, smaller, only.0)))
-      (λ (within : (lo ≤ m) × (m ≤ hi) × (IsInLoose m parts → ⊥)). absurd (omega (arith, less, smaller, within.0)))
-      changed;
+          (λ (under : (m < lo) × IsInLoose m parts). let only = loose.only m under.1 in absurd (omega (arith, smaller, only.0)))
+          (λ (within : (lo ≤ m) × (m ≤ hi) × (IsInLoose m parts → ⊥)). absurd (omega (arith, less, smaller, within.0)))
+          changed;
     }
 
 -- The range begins below the first that is not sealed.
@@ -150,9 +150,9 @@ least_first lo hi mark at first parts loose ordered less =
     record {
       here = inr (omega arith, ordered, λ inside. let only = loose.only lo inside in omega (arith, less, only.0));
       below = λ m smaller changed. ⊎_elim
-      (λ (under : (m < lo) × IsInLoose m parts). let only = loose.only m under.1 in absurd (omega (arith, smaller, less, only.0)))
-      (λ (within : (lo ≤ m) × (m ≤ hi) × (IsInLoose m parts → ⊥)). absurd (omega (arith, smaller, within.0)))
-      changed;
+          (λ (under : (m < lo) × IsInLoose m parts). let only = loose.only m under.1 in absurd (omega (arith, smaller, less, only.0)))
+          (λ (within : (lo ≤ m) × (m ≤ hi) × (IsInLoose m parts → ⊥)). absurd (omega (arith, smaller, within.0)))
+          changed;
     }
 
 -- The range begins with it, and ends above the mark.
@@ -161,9 +161,9 @@ least_above lo hi mark at first parts loose same over =
     record {
       here = inr (omega (arith, loose.upto, same), omega (arith, over), λ inside. let only = loose.only (mark + 1) inside in omega (arith, only.1));
       below = λ m smaller changed. ⊎_elim
-      (λ (under : (m < lo) × IsInLoose m parts). let only = loose.only m under.1 in absurd (omega (arith, under.0, same, only.0)))
-      (λ (within : (lo ≤ m) × (m ≤ hi) × (IsInLoose m parts → ⊥)). within.2 (loose.all m (omega (arith, same, within.0)) (omega (arith, smaller))))
-      changed;
+          (λ (under : (m < lo) × IsInLoose m parts). let only = loose.only m under.1 in absurd (omega (arith, under.0, same, only.0)))
+          (λ (within : (lo ≤ m) × (m ≤ hi) × (IsInLoose m parts → ⊥)). within.2 (loose.all m (omega (arith, same, within.0)) (omega (arith, smaller))))
+          changed;
     }
 
 pub none_changed : (lo hi mark at first : ℕ) (parts : List PartMeaning) → LooseFrom parts mark at first → lo ≡ first → hi ≤ mark → (n : ℕ) → IsChanged lo hi parts n → ⊥

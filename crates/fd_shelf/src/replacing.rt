@@ -29,12 +29,7 @@ fn first_loose<P: Held>(parts: &[P]) -> Option<(usize, u64)>
 }
 
 /// The place where the parts from `lo` to `hi` begin, or the least number that is changed.
-pub(crate) fn place_of_run<P: Held>(
-    active: &[P],
-    mark: u64,
-    lo: u64,
-    hi: u64,
-) -> Result<usize, u64>
+pub(crate) fn place_of_run<P: Held>(active: &[P], mark: u64, lo: u64, hi: u64) -> Result<usize, u64>
     requires order { IsInOrder (map P.means active.now) mark }
     requires bounded { mark < 2 ^ 63 }
     requires range { lo ≤ hi }

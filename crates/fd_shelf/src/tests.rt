@@ -1,62 +1,20 @@
-ghost use Rattle.std.specs.Prelude.{[]};
-ghost use Rattle.fd_kinds.specs.Parts.{loose_part};
-ghost use Rattle.fd_shelf.specs.declared.tests.Bare.{Bare};
+ghost use Rattle.std.specs.Prelude.{◌≡◌, ◌≤◌, [], IfOk, false};
+ghost use Rattle.fd_shelf.specs.Books.{IsLoose, rows_in, all_parts};
+ghost use Rattle.fd_shelf.specs.declared.bare.Bare.{Bare};
 
-use crate::{Shelf, Span};
+use crate::bare::{Bare, loose};
+use crate::{NotReplaced, Shelf, Span};
 use fd_kinds::{Held, NoMemory};
+use std::alloc::Global;
 use std::test::Fail;
-
-// A batch without rows.
-#[derive(Debug, Drop)]
-pub struct Bare {
-    number: u64,
-}
-
-impl Held for Bare {
-    ghost use Rattle.fd_kinds.proofs.PartLaws.{loose_part_is_part};
-
-    ghost means = { λ part. loose_part part.number [] };
-
-    ghost sound = { λ part. loose_part_is_part part.number [] };
-
-    fn lo(&self) -> u64 {
-        self.number
-    }
-
-    fn hi(&self) -> u64 {
-        self.number
-    }
-
-    fn sealed(&self) -> bool {
-        false
-    }
-
-    fn rows(&self) -> u64 {
-        0
-    }
-
-    fn bytes(&self) -> u64 {
-        0
-    }
-
-    fn share(&self) -> Result<Bare, NoMemory> {
-        Ok(Bare {
-            number: self.number,
-        })
-    }
-
-    fn number(&mut self, number: u64) {
-        self.number = number;
-    }
-}
 
 #[test]
 fn a_part_waits_for_the_numbers_before_it(rt: HostRuntime) -> Result<(), Fail> {
     let mut shelf: Shelf<Bare> = Shelf::new(rt.alloc());
     shelf.reserve(3)?;
-    shelf.admit(Bare { number: 2 });
+    shelf.admit(loose(2));
     assert_eq!(rt; shelf.advance(), 0);
-    shelf.admit(Bare { number: 1 });
+    shelf.admit(loose(1));
     assert_eq!(rt; shelf.advance(), 2);
     let both = Span {
         lo: 1,
@@ -72,8 +30,8 @@ fn a_part_waits_for_the_numbers_before_it(rt: HostRuntime) -> Result<(), Fail> {
 fn a_shelf_tells_its_blocks_and_shares_its_parts(rt: HostRuntime) -> Result<(), Fail> {
     let mut shelf: Shelf<Bare> = Shelf::new(rt.alloc());
     shelf.reserve(2)?;
-    shelf.append(Bare { number: 1 });
-    shelf.append(Bare { number: 2 });
+    shelf.append(loose(1));
+    shelf.append(loose(2));
     shelf.is_in_order();
     assert_eq!(rt; shelf.mark(), 2);
     assert_eq!(rt; shelf.active(), 0);
@@ -82,5 +40,69 @@ fn a_shelf_tells_its_blocks_and_shares_its_parts(rt: HostRuntime) -> Result<(), 
     assert_eq!(rt; picked.len(), 1);
     let first = picked.get(0).ok_or("first")?;
     assert!(rt; first.block == 0 && first.part.lo() == 1);
+    Ok(())
+}
+
+// A shelf with the numbers 1 and 2.
+fn two_numbers(alloc: Global) -> Result<Shelf<Bare>, NoMemory>
+    ensures { IfOk result (λ shelf. rows_in (all_parts shelf.book) ≡ []) }
+{
+    let mut shelf: Shelf<Bare> = Shelf::new(alloc);
+    shelf.reserve(2)?;
+    shelf.append(loose(1));
+    shelf.append(loose(2));
+    Ok(shelf)
+}
+
+fn try_replace(
+    shelf: &mut Shelf<Bare>,
+    block: u64,
+    lo: u64,
+    hi: u64,
+) -> Result<(), NotReplaced<Bare>>
+    requires bare { rows_in (all_parts shelf.old.book) ≡ [] }
+    requires range { lo ≤ hi }
+{
+    let part = Bare {
+        lo,
+        hi,
+        sealed: true,
+    };
+    shelf.replace(block, lo, hi, part)
+}
+
+#[test]
+fn one_sealed_part_takes_the_place_of_two(rt: HostRuntime) -> Result<(), Fail> {
+    let mut shelf = two_numbers(rt.alloc())?;
+    let before = shelf.level0(1)?;
+    assert_eq!(rt; before.len(), 1);
+    let replaced = try_replace(&mut shelf, 0, 1, 2);
+    assert!(rt; replaced.is_ok());
+    let after = shelf.level0(2)?;
+    assert_eq!(rt; after.len(), 0);
+    Ok(())
+}
+
+#[test]
+fn a_part_for_another_block_is_overtaken(rt: HostRuntime) -> Result<(), Fail> {
+    let mut shelf = two_numbers(rt.alloc())?;
+    let replaced = try_replace(&mut shelf, 1, 1, 2);
+    assert!(rt; matches!(replaced, Err(NotReplaced::Overtaken { block: 0, .. })));
+    Ok(())
+}
+
+#[test]
+fn a_number_below_the_range_stands_against_it(rt: HostRuntime) -> Result<(), Fail> {
+    let mut shelf = two_numbers(rt.alloc())?;
+    let replaced = try_replace(&mut shelf, 0, 2, 2);
+    assert!(rt; matches!(replaced, Err(NotReplaced::Changed { at: 1, .. })));
+    Ok(())
+}
+
+#[test]
+fn a_number_of_the_range_that_no_part_has_stands_against_it(rt: HostRuntime) -> Result<(), Fail> {
+    let mut shelf = two_numbers(rt.alloc())?;
+    let replaced = try_replace(&mut shelf, 0, 1, 4);
+    assert!(rt; matches!(replaced, Err(NotReplaced::Changed { at: 3, .. })));
     Ok(())
 }
