@@ -1,3 +1,4 @@
+pub mod Batches
 pub mod InOrder
 pub mod Kept
 pub mod Layouts

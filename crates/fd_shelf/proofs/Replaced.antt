@@ -31,7 +31,7 @@ none_above number lo hi (r ∷ rows) above within =
     let other : r.number < number = omega (arith, here.1, above) in
     grind (arith, other, none_above number lo hi rows above (All-tail (IsWithin lo hi) r rows within))
 
-none_in_front : (first mid number : ℕ) (parts : List PartMeaning) → Follows first parts mid → Each IsPart parts → mid < number → rows_of_number parts number ≡ []
+pub none_in_front : (first mid number : ℕ) (parts : List PartMeaning) → Follows first parts mid → Each IsPart parts → mid < number → rows_of_number parts number ≡ []
 none_in_front first mid number [] follows are over = refl
 none_in_front first mid number (p ∷ ps) follows are over =
     let upto = follows_upto (p.hi + 1) mid ps follows.2 in
@@ -44,7 +44,7 @@ none_in_back first mark number (p ∷ ps) follows are under =
     without number p ps (none_below number p.lo p.hi p.rows (omega (arith, follows.0, under)) are.0.within)
     ∙ none_in_back (p.hi + 1) mark number ps follows.2 are.1 (omega (arith, follows.0, follows.1, under))
 
-none_waiting : (above number : ℕ) (parts : List PartMeaning) → Waits above parts → Each IsPart parts → number ≤ above → rows_of_number parts number ≡ []
+pub none_waiting : (above number : ℕ) (parts : List PartMeaning) → Waits above parts → Each IsPart parts → number ≤ above → rows_of_number parts number ≡ []
 none_waiting above number [] waits are under = refl
 none_waiting above number (p ∷ ps) waits are under =
     without number p ps (none_below number p.lo p.hi p.rows (omega (arith, waits.0, under)) are.0.within)
@@ -101,7 +101,7 @@ rows_between front middle other back waiting mark n part fits low high =
     (none_in_back (part.hi + 1) mark n back fits.behind fits.back_are (omega (arith, high)))
     (none_waiting mark n waiting fits.waits fits.waiting_are (omega (arith, high, fits.bounded)))
 
-none_of_part : (part : PartMeaning) (n : ℕ) → IsPart part → (n < part.lo) ⊎ (part.hi < n) → filter (has_number n) part.rows ≡ []
+pub none_of_part : (part : PartMeaning) (n : ℕ) → IsPart part → (n < part.lo) ⊎ (part.hi < n) → filter (has_number n) part.rows ≡ []
 none_of_part part n is out =
     ⊎_elim
     (λ (under : n < part.lo). none_below n part.lo part.hi part.rows under is.within)
@@ -155,7 +155,7 @@ same_at front middle back waiting mark part fits n low high =
     ∙ fits.rows n low high
     ∙ ap (λ rows. in_row_order (rows_of rows)) (rows_between front middle middle back waiting mark n part fits low high))
 
-all_within : (lo hi : ℕ) (parts : List PartMeaning) (first : ℕ) → lo ≤ first → Follows first parts hi → Each IsPart parts → All (IsWithin lo hi) (rows_in parts)
+pub all_within : (lo hi : ℕ) (parts : List PartMeaning) (first : ℕ) → lo ≤ first → Follows first parts hi → Each IsPart parts → All (IsWithin lo hi) (rows_in parts)
 all_within lo hi [] first low follows are = All-nil (IsWithin lo hi)
 all_within lo hi (p ∷ ps) first low follows are =
     let upto = follows_upto (p.hi + 1) hi ps follows.2 in

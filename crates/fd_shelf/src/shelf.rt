@@ -1,7 +1,9 @@
 ghost use Rattle.std.specs.Prelude.{◌≡◌, ◌≢◌, ℕ, [], ◌+◌, ◌<◌, ◌≤◌, ◌^◌, false, true, if◌then◌else◌, length, map, filter, IfOk, IfErr, OnOk, OnErr};
-ghost use Rattle.std.specs.Prelude.{slice_get};
+ghost use Rattle.std.specs.Prelude.{slice_get, IsPermutation, ◌⊎◌, ◌∷◌};
+ghost use Rattle.fd_kinds.specs.History.{upto};
+ghost use Rattle.fd_kinds.specs.Parts.{rows_of};
 ghost use Rattle.fd_shelf.specs.Books.{Shelved, IsBook, Each, IsLoose, IsSealed, IsLight, HasSmallBatches, MOST_BATCH, blocks_of, settled_parts, all_parts, rows_in, bytes_of};
-ghost use Rattle.fd_shelf.specs.Histories.{hist};
+ghost use Rattle.fd_shelf.specs.Histories.{hist, batch_at, in_row_order};
 ghost use Rattle.fd_shelf.specs.Steps.{empty_book, admitted, advanced, appended, has_next, is_full, span_of, parts_upto, level0, placed_in, is_upto, IsWholeAt};
 ghost use Rattle.fd_shelf.specs.Replacing.{IsInOrder, IsChanged, HasRowsOf, HandsBack, replaced};
 
@@ -78,6 +80,10 @@ impl<P: Held> Shelf<P> {
         requires small { bytes_of (P.means part).rows ≤ MOST_BATCH }
         requires spare { 0 < self.old.spare }
         ensures admitted { self.new ≡ admitted (P.means part) self.old }
+
+        // Its number has its rows, and no other number has others than before.
+        ensures batch { batch_at (all_parts self.new.book) (P.means part).lo ≡ in_row_order (rows_of (P.means part).rows) }
+        ensures others { (n : ℕ) → n ≢ (P.means part).lo → batch_at (all_parts self.new.book) n ≡ batch_at (all_parts self.old.book) n }
         ensures history { hist self.new.book self.old.mark ≡ hist self.old.book self.old.mark }
     {
         wait(&mut self.waiting, part);
@@ -95,6 +101,10 @@ impl<P: Held> Shelf<P> {
         requires light { bytes_of (rows_in self.old.book.active) + bytes_of (P.means part).rows < 2 ^ 29 }
         requires spare { 0 < self.old.spare }
         ensures appended { self.new ≡ appended (P.means part) self.old }
+
+        // The numbers of its range have its rows, and no other number has others than before.
+        ensures batches { (n : ℕ) → (P.means part).lo ≤ n → n ≤ (P.means part).hi → batch_at (all_parts self.new.book) n ≡ batch_at (P.means part ∷ []) n }
+        ensures others { (n : ℕ) → (n < (P.means part).lo) ⊎ ((P.means part).hi < n) → batch_at (all_parts self.new.book) n ≡ batch_at (all_parts self.old.book) n }
         ensures history { hist self.new.book self.old.mark ≡ hist self.old.book self.old.mark }
     {
         self.mark = part.hi();
@@ -153,6 +163,16 @@ impl<P: Held> Shelf<P> {
         ensures { IsBook self.now.book self.now.mark }
     {
         let _mark = self.mark;
+    }
+
+    /// The history up to the mark has a batch for each number, and its rows are those of the parts
+    /// of the blocks, each as often as it stands there.
+    #[tactic(auto, using(crate::proofs::Batches::hist_length, crate::proofs::Batches::history_rows))]
+    pub fn history_laws(&self)
+        ensures count { length (hist self.now.book self.now.mark) ≡ self.now.mark }
+        ensures rows { IsPermutation (rows_of (rows_in (settled_parts self.now.book))) (upto (hist self.now.book self.now.mark) self.now.mark) }
+    {
+        self.is_in_order();
     }
 
     /// The number up to which every number stands in a block.
