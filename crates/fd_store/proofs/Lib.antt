@@ -1,1 +1,1 @@
-pub mod PlainBooks
+pub mod Settled

@@ -1,12 +1,13 @@
 ghost use Rattle.std.specs.Prelude.{◌≡◌, ◌<◌, ◌≤◌, ◌+◌, ◌^◌, [], ◌∷◌, ◌++◌, length, map, IfOk};
-ghost use Rattle.fd_kinds.specs.Parts.{loose_part, rows_of};
-ghost use Rattle.fd_shelf.specs.Books.{settled_parts, bytes_of, MOST_BATCH};
+ghost use Rattle.fd_kinds.specs.Parts.{rows_of};
+ghost use Rattle.fd_shelf.specs.Books.{IsLoose, settled_parts, bytes_of, MOST_BATCH};
+ghost use Rattle.fd_shelf.specs.Histories.{hist, in_row_order};
 ghost use Rattle.fd_store.specs.PlainParts.{plain_part};
-ghost use Rattle.fd_store.specs.Histories.{IsPlain, batches_of};
 
 use crate::PlainPart;
 use crate::answering::answer;
 use fd_kinds::{Batch, Held, NoMemory, Query, ReadRefusal, Seen, Stand, Store, WriteRefusal};
+use fd_meaning::order_laws;
 use fd_shelf::{Picked, Shelf};
 use std::marker::Model;
 
@@ -21,26 +22,28 @@ pub struct Local {
 }
 
 impl Model for Local {
+    ghost use Rattle.std.specs.Prelude.{◌≡◌, []};
     ghost use Rattle.fd_kinds.specs.History.{History};
-    ghost use Rattle.fd_shelf.specs.Books.{settled_parts};
-    ghost use Rattle.fd_store.specs.Histories.{IsPlain, batches_of};
+    ghost use Rattle.fd_shelf.specs.Histories.{hist};
 
     ghost Value = { History };
 
-    ghost view = { λ s. batches_of (settled_parts s.shelf.book) };
+    ghost view = { λ s. hist s.shelf.book s.shelf.mark };
 
-    ghost invariant = { λ s. IsPlain s.shelf.book };
+    ghost invariant = { λ s. s.shelf.book.stragglers ≡ [] };
 }
 
 /// Adds a batch that has no number, under the number that follows the mark.
 fn add(shelf: &mut Shelf<PlainPart>, part: PlainPart)
-    requires plain { IsPlain shelf.old.book }
+    requires alone { shelf.old.book.stragglers ≡ [] }
+    requires loose { IsLoose (plain_part part) }
     requires unnumbered { (plain_part part).lo ≡ 0 }
     requires room { shelf.old.mark < 2 ^ 62 }
     requires small { bytes_of (plain_part part).rows ≤ MOST_BATCH }
     requires spare { 0 < shelf.old.spare }
-    ensures plain { IsPlain shelf.new.book }
-    ensures parts { settled_parts shelf.new.book ≡ settled_parts shelf.old.book ++ loose_part (shelf.old.mark + 1) (rows_of (plain_part part).rows) ∷ [] }
+    ensures alone { shelf.new.book.stragglers ≡ [] }
+    ensures mark { shelf.new.mark ≡ shelf.old.mark + 1 }
+    ensures history { hist shelf.new.book shelf.new.mark ≡ hist shelf.old.book shelf.old.mark ++ in_row_order (rows_of (plain_part part).rows) ∷ [] }
 {
     let mut part = part;
     part.number(shelf.mark() + 1);
@@ -49,20 +52,17 @@ fn add(shelf: &mut Shelf<PlainPart>, part: PlainPart)
 }
 
 /// How many batches there are.
-#[tactic(auto, using(crate::proofs::PlainBooks::book_length))]
 fn drawn(shelf: &Shelf<PlainPart>) -> u64
-    requires { IsPlain shelf.now.book }
     ensures mark { result ≡ shelf.now.mark }
-    ensures count { result ≡ length (batches_of (settled_parts shelf.now.book)) }
+    ensures count { result ≡ length (hist shelf.now.book shelf.now.mark) }
 {
-    shelf.is_in_order();
+    shelf.history_laws();
     shelf.mark()
 }
 
 /// Shares of all parts, in order.
-#[tactic(auto, using(crate::proofs::PlainBooks::upto_mark, crate::proofs::PlainBooks::whole_at_mark))]
+#[tactic(auto, using(crate::proofs::Settled::upto_mark, crate::proofs::Settled::whole_at_mark))]
 fn all_parts(shelf: &Shelf<PlainPart>) -> Result<Picked<PlainPart>, NoMemory>
-    requires { IsPlain shelf.now.book }
     ensures { IfOk result (λ picked. map (λ i. plain_part i.part) picked ≡ settled_parts shelf.now.book) }
 {
     shelf.is_in_order();
@@ -72,16 +72,16 @@ fn all_parts(shelf: &Shelf<PlainPart>) -> Result<Picked<PlainPart>, NoMemory>
 impl Local {
     /// A store over a shelf without stragglers. It takes no memory.
     pub fn new(shelf: Shelf<PlainPart>) -> Local
-        requires { IsPlain shelf.book }
-        ensures { result ≡ batches_of (settled_parts shelf.book) }
+        requires { shelf.book.stragglers ≡ [] }
+        ensures { result ≡ hist shelf.book shelf.mark }
     {
         Local { shelf }
     }
 
     /// The shelf of the store. It takes no memory.
     pub fn close(self) -> Shelf<PlainPart>
-        ensures plain { IsPlain result.book }
-        ensures history { batches_of (settled_parts result.book) ≡ self }
+        ensures alone { result.book.stragglers ≡ [] }
+        ensures history { hist result.book result.mark ≡ self }
     {
         let Local { shelf } = self;
         shelf
@@ -130,6 +130,8 @@ impl Store for Local {
         }
         let parts = all_parts(&self.shelf)?;
         let answer = answer(parts.allocator(), query, parts.as_slice())?;
+        self.shelf.history_laws();
+        order_laws();
         Ok(Seen { watermark, answer })
     }
 
