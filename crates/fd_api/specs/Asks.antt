@@ -136,3 +136,8 @@ AsksRoute (Some r) request asked =
 
 abbrev pub Asks : Request → Asked → Type 0
 Asks request asked = AsksRoute (route_of (path_of request.target)) request asked
+
+-- Something is known of what is asked: it, or that the body of a write decides.
+abbrev pub Knows : (Asked → Type 0) → Request → Option Asked → Type 0
+Knows IsAsked request (Some asked) = IsAsked asked
+Knows IsAsked request None = (asked : Asked) → AsksBody (body_of request.body) asked → IsAsked asked

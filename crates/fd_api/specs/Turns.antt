@@ -62,8 +62,8 @@ after_put close Failed = Some kind.WriteFault
 after_put close Done = if close then Some kind.Closed else None
 
 -- how it goes on after a note and a reply: with the next request, or to an end
-abbrev pub after_reply : Request → Note → Put → Option EndKind
-after_reply request note put = if is_faulted note then Some kind.DiskFault else after_put request.close put
+abbrev pub after_reply : Bool → Note → Put → Option EndKind
+after_reply closes note put = if is_faulted note then Some kind.DiskFault else after_put closes put
 
 -- no request arrived: the input ended, or something spoke against the next request
 abbrev pub NoRequest : Option (List ℕ) → Option (List ℕ) → List ℕ → List ℕ → Option (List ℕ) → Option (List ℕ) → ℕ → ℕ → EndKind → Type 0
@@ -83,7 +83,7 @@ module _ {S : Type 0} (write_gives : S → List Row → Result ℕ WriteRefusal 
     pub noted : notes_new ≡ notes_old ++ note ∷ []
     pub sent : PutsReply taken_old taken_new bytes put
     pub count : PutCause before now put
-    pub goes : end ≡ after_reply request note put
+    pub goes : end ≡ after_reply request.close note put
 
   -- No request arrived, and the session ends.
   pub record Unturned (left_old left_new : Option (List ℕ)) (inbox_old inbox_new : List ℕ) (taken_old taken_new : Option (List ℕ)) (before now : ℕ) (old new : S) (notes_old notes_new : List Note) (end : Option EndKind) : Type 0 where

@@ -1,7 +1,8 @@
-ghost use Rattle.std.specs.Prelude.{◌≡◌, IfOk, Ok, codes};
+ghost use Rattle.std.specs.Prelude.{◌≡◌, IfOk, MatchOption, Ok, codes};
+ghost use Rattle.fd_http.specs.declared.request.Request.{Request};
 ghost use Rattle.std.specs.Option.{option_copied};
 ghost use Rattle.fd_json.specs.Body.{body_of};
-ghost use Rattle.fd_api.specs.Asks.{Asks, AsksRoute, AsksOf, AsksWrite, AsksBody, AsksWithin, AsksList, AsksListed, AsksSum, AsksSummed, IsSelectFault, AsksTime, after_of, query_asked, ReadsSelector};
+ghost use Rattle.fd_api.specs.Asks.{Asks, AsksRoute, AsksOf, AsksWrite, Knows, AsksBody, AsksWithin, AsksList, AsksListed, AsksSum, AsksSummed, IsSelectFault, AsksTime, after_of, query_asked, ReadsSelector};
 ghost use Rattle.fd_api.specs.Faults.{body_fault, label_fault, profile_fault, batch_fault};
 ghost use Rattle.fd_api.specs.Targets.{query_of, last_value};
 
@@ -11,8 +12,8 @@ use crate::question::{Question, query_of};
 use crate::route::{Listing, Route, Summing, method_name, method_of, route_of};
 use crate::target::{last_value, parameters, split_target};
 use fd_http::Request;
-use fd_json::{BodyFault, Fault, Parameter, read_body};
-use fd_kinds::{NoMemory, Pair, RawBody, Selector, Text, Window, read_size};
+use fd_json::{BodyFault, Fault, Parameter, read_body, read_sent};
+use fd_kinds::{Bytes, NoMemory, Pair, RawBody, Selector, Text, Window, read_size};
 use fd_pprof::ProfileFault;
 use fd_rows::{BatchFault, LabelFault, batch};
 use fd_select::{MomentFault, SelectFault, moment, selector};
@@ -101,13 +102,25 @@ fn decide_body(alloc: Global, bytes: &[u8]) -> Result<Asked, NoMemory>
     }
 }
 
-fn decide_write(alloc: Global, request: &Request) -> Result<Asked, NoMemory>
-    ensures { IfOk result (AsksWrite request.now) }
+/// What a body asks that is let go as soon as it is read.
+fn decide_sent(alloc: Global, bytes: Bytes) -> Result<Asked, NoMemory>
+    ensures { IfOk result (AsksBody (body_of bytes)) }
+{
+    match read_sent(alloc, bytes) {
+        Ok(body) => decide_batch(alloc, &body),
+        Err(fault) => Ok(Asked::Refused(body_fault(fault)?)),
+    }
+}
+
+/// The refusal of a write by its head, none where its body decides.
+fn decide_write(request: &Request) -> Option<Asked>
+    ensures { Knows (AsksWrite request.now) request.now result }
 {
     if request.encoded {
-        return Ok(Asked::Refused(Fault::Encoded));
+        Some(Asked::Refused(Fault::Encoded))
+    } else {
+        None
     }
-    decide_body(alloc, request.body.as_slice())
 }
 
 /// A time of the window, or the bound that stands where it is open.
@@ -234,44 +247,92 @@ fn decide_sum(alloc: Global, parameters: &[Pair], summing: Summing) -> Result<As
     }
 }
 
-fn decide_of(alloc: Global, route: Route, request: &Request, query: &str) -> Result<Asked, NoMemory>
-    requires { query.now ≡ query_of request.now.target }
-    ensures { IfOk result (AsksOf route request.now) }
+/// What a request asks that is no write.
+fn decide_query(alloc: Global, route: Route, query: &str) -> Result<Option<Asked>, NoMemory>
+    ensures { IfOk result (λ known. MatchOption known (route ≡ Route.Write) (λ asked.
+        (request : Request) → query.now ≡ query_of request.target → AsksOf route request asked)) }
 {
     match route {
-        Route::Write => decide_write(alloc, request),
-        Route::Types => decide_within(parameters(alloc, query)?.as_slice(), Question::Types),
-        Route::List(listing) => decide_list(alloc, parameters(alloc, query)?.as_slice(), listing),
-        Route::Sum(summing) => decide_sum(alloc, parameters(alloc, query)?.as_slice(), summing),
-        Route::Status => Ok(Asked::Stand),
+        Route::Write => Ok(None),
+        Route::Types => Ok(Some(decide_within(
+            parameters(alloc, query)?.as_slice(),
+            Question::Types,
+        )?)),
+        Route::List(listing) => Ok(Some(decide_list(
+            alloc,
+            parameters(alloc, query)?.as_slice(),
+            listing,
+        )?)),
+        Route::Sum(summing) => Ok(Some(decide_sum(
+            alloc,
+            parameters(alloc, query)?.as_slice(),
+            summing,
+        )?)),
+        Route::Status => Ok(Some(Asked::Stand)),
     }
 }
 
-/// What a request asks of the resource that its path names.
+/// What a request asks of a resource, none where it is a write and its body decides.
+fn decide_of(
+    alloc: Global,
+    route: Route,
+    request: &Request,
+    query: &str,
+) -> Result<Option<Asked>, NoMemory>
+    requires { query.now ≡ query_of request.now.target }
+    ensures { IfOk result (Knows (AsksOf route request.now) request.now) }
+{
+    match decide_query(alloc, route, query)? {
+        Some(asked) => Ok(Some(asked)),
+        None => Ok(decide_write(request)),
+    }
+}
+
+/// What a request asks of the resource that its path names, none where its body decides.
 fn decide_route(
     alloc: Global,
     route: Option<Route>,
     request: &Request,
     query: &str,
-) -> Result<Asked, NoMemory>
+) -> Result<Option<Asked>, NoMemory>
     requires { query.now ≡ query_of request.now.target }
-    ensures { IfOk result (AsksRoute route request.now) }
+    ensures { IfOk result (Knows (AsksRoute route request.now) request.now) }
 {
     let Some(route) = route else {
-        return Ok(Asked::Refused(Fault::NoRoute));
+        return Ok(Some(Asked::Refused(Fault::NoRoute)));
     };
     let method = method_of(&route);
     if request.method.as_slice() != method_name(method) {
-        return Ok(Asked::NotAllowed(method));
+        return Ok(Some(Asked::NotAllowed(method)));
     }
     decide_of(alloc, route, request, query)
+}
+
+/// What a request asks by its head, none where its body decides.
+fn decide_head(alloc: Global, request: &Request) -> Result<Option<Asked>, NoMemory>
+    ensures { IfOk result (Knows (Asks request.now) request.now) }
+{
+    let (path, query) = split_target(request.target.as_str());
+    let route = route_of(alloc, path)?;
+    decide_route(alloc, route, request, query)
 }
 
 /// What a request asks.
 pub(crate) fn decide(alloc: Global, request: &Request) -> Result<Asked, NoMemory>
     ensures { IfOk result (Asks request.now) }
 {
-    let (path, query) = split_target(request.target.as_str());
-    let route = route_of(alloc, path)?;
-    decide_route(alloc, route, request, query)
+    match decide_head(alloc, request)? {
+        Some(asked) => Ok(asked),
+        None => decide_body(alloc, request.body.as_slice()),
+    }
+}
+
+/// What a request asks whose body is let go as soon as it is read.
+pub(crate) fn decide_moved(alloc: Global, request: Request) -> Result<Asked, NoMemory>
+    ensures { IfOk result (Asks request) }
+{
+    match decide_head(alloc, &request)? {
+        Some(asked) => Ok(asked),
+        None => decide_sent(alloc, request.body),
+    }
 }

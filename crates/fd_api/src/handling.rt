@@ -1,10 +1,12 @@
-ghost use Rattle.std.specs.Prelude.{◌≡◌, ◌≢◌, ◌⊎◌, false, IsTrue, MatchResult};
+ghost use Rattle.std.specs.Prelude.{◌≡◌, ◌≢◌, ◌⊎◌, false, IfOk, IsTrue, MatchResult};
+ghost use Rattle.fd_http.specs.declared.request.Request.{Request};
+ghost use Rattle.fd_api.specs.Asks.{Asks};
 ghost use Rattle.fd_kinds.specs.Counts.{Rose};
 ghost use Rattle.fd_http.specs.Replies.{CanBeSent, is_made_status};
 ghost use Rattle.fd_api.specs.Replies.{IsReply, done, refusal, not_allowed, short, status_of};
 ghost use Rattle.fd_api.specs.Handles.{Does, Handles};
 
-use crate::decide::decide;
+use crate::decide::{decide, decide_moved};
 use crate::{Accepted, Asked, Note};
 use fd_http::{Method, Request, Response};
 use fd_json::{Fault, answer_text, fault_text, number_text, stand_text};
@@ -165,17 +167,16 @@ fn stand<T: Store>(alloc: Global, store: &mut T) -> Handled
     }
 }
 
-/// Handles a request: decides what it asks, does that to the store, and makes the reply, which
-/// does not close the session. Want of memory is replied to by `Short`.
-pub fn handle<T: Store>(alloc: Global, store: &mut T, request: &Request) -> Handled
+/// Does what was asked, where there was memory to decide that.
+fn carry_out<T: Store>(alloc: Global, store: &mut T, asked: Result<Asked, NoMemory>) -> Handled
     requires { T.has_failed store.old ≡ false }
-    ensures handles { Handles T.write_gives T.read_gives T.stand_gives request.now store.old result.note result.reply store.new }
+    ensures handles { (request : Request) → IfOk asked (Asks request) → Handles T.write_gives T.read_gives T.stand_gives request store.old result.note result.reply store.new }
     ensures sendable { CanBeSent result.reply }
     ensures fault { result.note ≡ Note.Faulted → Rose (T.faults store.old) (T.faults store.new) }
     ensures healthy { result.note ≢ Note.Faulted → T.has_failed store.new ≡ false }
     ensures kept { result.note ≢ Note.Faulted → T.faults store.new ≡ T.faults store.old }
 {
-    let Ok(asked) = decide(alloc, request) else {
+    let Ok(asked) = asked else {
         return short();
     };
     match asked {
@@ -191,4 +192,29 @@ pub fn handle<T: Store>(alloc: Global, store: &mut T, request: &Request) -> Hand
             note: Note::Refused,
         },
     }
+}
+
+/// Handles a request: decides what it asks, does that to the store, and makes the reply, which
+/// does not close the session. Want of memory is replied to by `Short`.
+pub fn handle<T: Store>(alloc: Global, store: &mut T, request: &Request) -> Handled
+    requires { T.has_failed store.old ≡ false }
+    ensures handles { Handles T.write_gives T.read_gives T.stand_gives request.now store.old result.note result.reply store.new }
+    ensures sendable { CanBeSent result.reply }
+    ensures fault { result.note ≡ Note.Faulted → Rose (T.faults store.old) (T.faults store.new) }
+    ensures healthy { result.note ≢ Note.Faulted → T.has_failed store.new ≡ false }
+    ensures kept { result.note ≢ Note.Faulted → T.faults store.new ≡ T.faults store.old }
+{
+    carry_out(alloc, store, decide(alloc, request))
+}
+
+/// Handles a request as `handle` does, and lets its body go as soon as that is read.
+pub(crate) fn handle_moved<T: Store>(alloc: Global, store: &mut T, request: Request) -> Handled
+    requires { T.has_failed store.old ≡ false }
+    ensures handles { Handles T.write_gives T.read_gives T.stand_gives request store.old result.note result.reply store.new }
+    ensures sendable { CanBeSent result.reply }
+    ensures fault { result.note ≡ Note.Faulted → Rose (T.faults store.old) (T.faults store.new) }
+    ensures healthy { result.note ≢ Note.Faulted → T.has_failed store.new ≡ false }
+    ensures kept { result.note ≢ Note.Faulted → T.faults store.new ≡ T.faults store.old }
+{
+    carry_out(alloc, store, decide_moved(alloc, request))
 }

@@ -6,7 +6,7 @@ ghost use Rattle.fd_api.specs.Replies.{IsSent, closing};
 ghost use Rattle.fd_api.specs.Sessions.{Serves, Ends, SourceCause, SinkCause, StoreCause, is_faulted};
 ghost use Rattle.fd_api.specs.Turns.{PutsReply, Dismisses, Short, EndsAt, Turns, after_reply};
 
-use crate::handling::{handle, refuse};
+use crate::handling::{handle_moved, refuse};
 use crate::{Handled, Note, Notes};
 use fd_device::{Put, Sink, Source};
 use fd_http::{Arrived, Inbox, Request, RequestFault, Response, SendFault, next_request, reply};
@@ -129,10 +129,10 @@ fn is_faulted(note: Note) -> bool
 }
 
 /// Whether the reply closes the session.
-fn closes(request: &Request, note: Note, last: bool) -> bool
-    ensures { result ≡ (request.now.close || last || is_faulted note) }
+fn closes(asked: bool, note: Note, last: bool) -> bool
+    ensures { result ≡ (asked || last || is_faulted note) }
 {
-    request.close || last || is_faulted(note)
+    asked || last || is_faulted(note)
 }
 
 /// Handles a request and replies to it. The reply closes the session where the request asks for
@@ -141,33 +141,34 @@ fn answer<T: Store, K: Sink>(
     alloc: Global,
     store: &mut T,
     out: &mut K,
-    request: &Request,
+    request: Request,
     last: bool,
 ) -> (Note, Put)
     requires { T.has_failed store.old ≡ false }
-    ensures served { (bytes : List ℕ) × Serves T.write_gives T.read_gives T.stand_gives request.now store.old result.0 store.new (request.now.close || last || is_faulted result.0) bytes
+    ensures served { (bytes : List ℕ) × Serves T.write_gives T.read_gives T.stand_gives request store.old result.0 store.new (request.close || last || is_faulted result.0) bytes
         × PutsReply (K.taken out.old) (K.taken out.new) bytes result.1 }
     ensures sink { PutCause (K.faults out.old) (K.faults out.new) result.1 }
     ensures fault { is_faulted result.0 ≡ true → Rose (T.faults store.old) (T.faults store.new) }
     ensures healthy { is_faulted result.0 ≡ false → T.has_failed store.new ≡ false }
     ensures kept { is_faulted result.0 ≡ false → T.faults store.new ≡ T.faults store.old }
 {
-    let Handled { reply, note } = handle(alloc, store, request);
-    let close = closes(request, note, last);
+    let asked = request.close;
+    let Handled { reply, note } = handle_moved(alloc, store, request);
+    let close = closes(asked, note, last);
     let put = send(alloc, out, reply, close);
     (note, put)
 }
 
 /// How the session goes on after a note and a reply.
-fn after_reply(request: &Request, note: Note, put: Put) -> Option<EndKind>
-    ensures { result ≡ after_reply request.now note put }
+fn after_reply(closes: bool, note: Note, put: Put) -> Option<EndKind>
+    ensures { result ≡ after_reply closes note put }
 {
     if is_faulted(note) {
         return Some(EndKind::DiskFault);
     }
     match put {
         Put::Failed => Some(EndKind::WriteFault),
-        Put::Done if request.close => Some(EndKind::Closed),
+        Put::Done if closes => Some(EndKind::Closed),
         Put::Done => None,
     }
 }
@@ -194,9 +195,10 @@ fn turn<T: Store, S: Source, K: Sink>(
     }
     match next_request(alloc, input, inbox) {
         Ok(Arrived::One(request)) => {
-            let (note, put) = answer(alloc, store, out, &request, last);
+            let closes = request.close;
+            let (note, put) = answer(alloc, store, out, request, last);
             notes.put(note);
-            after_reply(&request, note, put)
+            after_reply(closes, note, put)
         }
         Ok(Arrived::End) => Some(EndKind::Ended),
         Err(fault) => Some(end_at(alloc, out, fault)),

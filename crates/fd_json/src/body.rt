@@ -1,11 +1,11 @@
 ghost use Rattle.std.specs.Prelude.{◌≡◌, ◌≢◌, map, Some, None, Ok, Err, IfOk, IfErr};
 ghost use Rattle.serde_json.specs.View.{view};
 ghost use Rattle.fd_json.specs.Json.{json_of as json_spec};
-ghost use Rattle.fd_json.specs.Body.{body_of, profiles_from, series_from};
+ghost use Rattle.fd_json.specs.Body.{body_of, body_of_json, profiles_from, series_from};
 
 use crate::fault::{BodyFault, Unread};
 use crate::shape::{SentProfile, SentSeries, shape_of};
-use fd_kinds::{BytesList, Items, RawBody, RawSeries, RawSeriesList};
+use fd_kinds::{Bytes, BytesList, Items, RawBody, RawSeries, RawSeriesList};
 use serde_json::Value;
 use std::alloc::Global;
 
@@ -61,6 +61,20 @@ fn bodies_of(alloc: Global, sent: Items<SentSeries>) -> Result<RawSeriesList, Bo
     Ok(series)
 }
 
+/// What the value of a write body means. It is let go once its profiles are decoded.
+fn body_in(alloc: Global, value: Value) -> Result<RawBody, BodyFault>
+    ensures ok { IfOk result (λ b. body_of_json (Some (view value)) ≡ Ok b) }
+    ensures err { IfErr result (λ e. e ≢ BodyFault.NoMemory → body_of_json (Some (view value)) ≡ Err e) }
+{
+    let sent = match shape_of(alloc, &value) {
+        Ok(sent) => sent,
+        Err(Unread::BadShape) => return Err(BodyFault::BadShape),
+        Err(Unread::NoMemory) => return Err(BodyFault::NoMemory),
+    };
+    let series = bodies_of(alloc, sent)?;
+    Ok(RawBody { series })
+}
+
 /// Reads a write body, a JSON object (RFC 8259): `series` is a list of objects with `labels`, an
 /// object whose `labels` lists objects with the texts `name` and `value`, and `samples`, a list of
 /// objects with the text `rawProfile` or `raw_profile` in base64 (RFC 4648, section 4). A member
@@ -69,12 +83,23 @@ pub fn read_body(alloc: Global, bytes: &[u8]) -> Result<RawBody, BodyFault>
     ensures ok { IfOk result (λ b. body_of bytes.now ≡ Ok b) }
     ensures err { IfErr result (λ e. e ≢ BodyFault.NoMemory → body_of bytes.now ≡ Err e) }
 {
-    let value = json_of(alloc, bytes)?;
-    let sent = match shape_of(alloc, &value) {
-        Ok(sent) => sent,
-        Err(Unread::BadShape) => return Err(BodyFault::BadShape),
-        Err(Unread::NoMemory) => return Err(BodyFault::NoMemory),
-    };
-    let series = bodies_of(alloc, sent)?;
-    Ok(RawBody { series })
+    body_in(alloc, json_of(alloc, bytes)?)
+}
+
+/// The JSON value that these bytes spell, behind which they are let go.
+fn json_of_sent(alloc: Global, bytes: Bytes) -> Result<Value, BodyFault>
+    ensures ok { IfOk result (λ v. json_spec bytes ≡ Some (view v)) }
+    ensures err { IfErr result (λ e. (e ≢ BodyFault.NoMemory)
+        → (e ≡ BodyFault.NotJson) × (json_spec bytes ≡ None)) }
+{
+    json_of(alloc, bytes.as_slice())
+}
+
+/// Reads a write body as `read_body` does. The body is let go before its profiles are decoded, so
+/// that no more than its bytes and its texts, or its texts and its profiles, stand in memory at once.
+pub fn read_sent(alloc: Global, bytes: Bytes) -> Result<RawBody, BodyFault>
+    ensures ok { IfOk result (λ b. body_of bytes ≡ Ok b) }
+    ensures err { IfErr result (λ e. e ≢ BodyFault.NoMemory → body_of bytes ≡ Err e) }
+{
+    body_in(alloc, json_of_sent(alloc, bytes)?)
 }
