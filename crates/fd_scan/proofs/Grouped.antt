@@ -157,6 +157,61 @@ module _ {K : Type 0} {R : K → K → Ordering} (o : IsTotalOrder R) (exact : (
             (sym (filter_push (has q) rows row false (turned q ∙ e) ∙ nothing_more (filter (has q) rows)))
             (before.each q))
 
+    -- the same where what stands for a key is told by another list after the row was added
+    pub groups_moved : (After : X → List Row → Type 0) (m n : BTreeMap K X) (rows : List Row) (row : Row) (after : X)
+        → IsOrdered R n
+        → ((q : K) → get R n q ≡ cond (is_eq (R (key row) q)) (Some after) (get R m q))
+        → MatchOption (get R m (key row)) (After after (row ∷ [])) (λ x. (some : List Row) → Of x some → After after (some ++ row ∷ []))
+        → ((q : K) (x : X) (some : List Row) → is_eq (R (key row) q) ≡ false → get R m q ≡ Some x → Of x some → After x some)
+        → IsGrouped R key Of m rows → IsGrouped R key After n (rows ++ row ∷ [])
+    groups_moved After m n rows row after rising updates more others before = record {
+      rising = rising;
+      each = λ q. by q (is_eq (R (key row) q)) refl;
+    }
+      where
+        AtAfter : Option X → Bool → List Row → Type 0
+        AtAfter found any some = MatchOption found (any ≡ false) (λ x. (any ≡ true) × After x some)
+
+        turned : (q : K) → has q row ≡ is_eq (R (key row) q)
+        turned q = (eq_by_cmp_equiv o).symm q (key row)
+
+        with : (found : Option X) (any : Bool) (some : List Row) → (any ≡ false → some ≡ []) → MatchOption found (After after (row ∷ [])) (λ x. (some : List Row) → Of x some → After after (some ++ row ∷ [])) → At found any some → After after (some ++ row ∷ [])
+        with None any some none h k = subst (λ l. After after (l ++ row ∷ [])) (sym (none k)) h
+        with (Some x) any some none h k = h some k.1
+
+        here : (q : K) → key row ≡ q → After after (filter (has q) rows ++ row ∷ [])
+        here q e = subst (λ k. After after (filter (has k) rows ++ row ∷ [])) e
+            (with (get R m (key row)) (list_any (has (key row)) rows) (filter (has (key row)) rows) (filter_none (has (key row)) rows) more (before.each (key row)))
+
+        kept : (q : K) (found : Option X) (any : Bool) (some : List Row) → is_eq (R (key row) q) ≡ false → get R m q ≡ found → At found any some → AtAfter found any some
+        kept q None any some apart is h = h
+        kept q (Some x) any some apart is h = (h.0, others q x some apart is h.1)
+
+        by : (q : K) (b : Bool) → is_eq (R (key row) q) ≡ b → AtAfter (get R n q) (list_any (has q) (rows ++ row ∷ [])) (filter (has q) (rows ++ row ∷ []))
+        by q true e =
+            subst (λ found. AtAfter found (list_any (has q) (rows ++ row ∷ [])) (filter (has q) (rows ++ row ∷ [])))
+            (sym (updates q ∙ ap (λ b. cond b (Some after) (get R m q)) e)) (
+              any_push (has q) rows row true (turned q ∙ e) ∙ or_true (list_any (has q) rows),
+              subst (After after) (sym (filter_push (has q) rows row true (turned q ∙ e))) (here q (exact (key row) q ((Equal-is (R (key row) q)).0 e))),
+            )
+        by q false e =
+            subst (λ found. AtAfter found (list_any (has q) (rows ++ row ∷ [])) (filter (has q) (rows ++ row ∷ [])))
+            (sym (updates q ∙ ap (λ b. cond b (Some after) (get R m q)) e))
+            (subst (λ c. AtAfter (get R m q) c (filter (has q) (rows ++ row ∷ []))) (sym (any_push (has q) rows row false (turned q ∙ e) ∙ or_false (list_any (has q) rows)))
+            (subst (λ l. AtAfter (get R m q) (list_any (has q) rows) l) (sym (filter_push (has q) rows row false (turned q ∙ e) ∙ nothing_more (filter (has q) rows)))
+            (kept q (get R m q) (list_any (has q) rows) (filter (has q) rows) e refl (before.each q))))
+
+    -- what stands for each key is told by another list
+    pub groups_retold : (After : X → List Row → Type 0) (m n : BTreeMap K X) (rows : List Row) → IsOrdered R n → ((q : K) → get R n q ≡ get R m q) → ((x : X) (some : List Row) → Of x some → After x some) → IsGrouped R key Of m rows → IsGrouped R key After n rows
+    groups_retold After m n rows rising same retold before = record {
+      rising = rising;
+      each = λ q. subst (λ found. MatchOption found (list_any (has q) rows ≡ false) (λ x. (list_any (has q) rows ≡ true) × After x (filter (has q) rows))) (sym (same q)) (by (get R m q) (list_any (has q) rows) (filter (has q) rows) (before.each q));
+    }
+      where
+        by : (found : Option X) (any : Bool) (some : List Row) → At found any some → MatchOption found (any ≡ false) (λ x. (any ≡ true) × After x some)
+        by None any some h = h
+        by (Some x) any some h = (h.0, retold x some h.1)
+
     -- maps that find the same have the same groups
     pub same_groups : (m n : BTreeMap K X) (rows : List Row) → IsOrdered R n → ((q : K) → get R n q ≡ get R m q) → IsGrouped R key Of m rows → IsGrouped R key Of n rows
     same_groups m n rows rising same before = record {

@@ -1,10 +1,17 @@
+pub mod CellsRead
 pub mod Distinct
+pub mod EntryLaws
 pub mod Gathering
 pub mod Grouped
+pub mod Keeping
+pub mod Knowing
 pub mod LabelKeys
 pub mod Looked
 pub mod Outcomes
 pub mod Ranged
 pub mod Recently
+pub mod Scanned
+pub mod Slotted
 pub mod Summed
+pub mod TypeCells
 pub mod Undoing

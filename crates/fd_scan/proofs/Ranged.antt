@@ -11,7 +11,7 @@ use Rattle.fd_scan.specs.Adding.{Adds, FindsSame}
 use Rattle.fd_scan.specs.Grouped.{ArePoints, AreRanges}
 use Rattle.fd_scan.proofs.Grouped.{IsMore, groups_more, groups_replaced, groups_listed, same_groups}
 use Rattle.fd_scan.proofs.LabelKeys.{labels_cmp_total, labels_cmp_exact}
-use Rattle.fd_scan.proofs.Summed.{points_more, points_same, points_from_map, to_point}
+use Rattle.fd_scan.proofs.Summed.{points_with, points_same, points_from_map, to_point}
 
 abbrev Points : Type 0
 Points = BTreeMap ℤ ℤ
@@ -20,29 +20,32 @@ abbrev labels_of : Row → Labels
 labels_of row = row.labels
 
 -- a value at a time of labels that were there
-pub ranges_more : (m n : BTreeMap Labels Points) (rows : List Row) (row : Row) (x y : Points)
+pub ranges_more : (m n : BTreeMap Labels Points) (rows : List Row) (row : Row) (labels : Labels) (timestamp value : ℤ) (x y : Points)
     → IsOrdered labels_cmp n
-    → get labels_cmp m row.labels ≡ Some x
-    → ((q : Labels) → get labels_cmp n q ≡ cond (is_eq (labels_cmp row.labels q)) (Some y) (get labels_cmp m q))
-    → Adds int_cmp row.timestamp row.value x y
+    → get labels_cmp m labels ≡ Some x
+    → ((q : Labels) → get labels_cmp n q ≡ cond (is_eq (labels_cmp labels q)) (Some y) (get labels_cmp m q))
+    → Adds int_cmp timestamp value x y
+    → row.labels ≡ labels → row.timestamp ≡ timestamp → row.value ≡ value
     → AreRanges m rows → AreRanges n (rows ++ row ∷ [])
-ranges_more m n rows row x y rising is updates adds before =
-    groups_more labels_cmp_total labels_cmp_exact labels_of ArePoints m n rows row y rising updates
-    (subst (λ found. IsMore labels_cmp_total labels_cmp_exact labels_of ArePoints found y row) (sym is) (λ some points. points_more x y some row adds points))
+ranges_more m n rows row labels timestamp value x y rising is updates adds is_labels is_time is_value before =
+    groups_more labels_cmp_total labels_cmp_exact labels_of ArePoints m n rows row y rising
+    (λ q. updates q ∙ ap (λ l. cond (is_eq (labels_cmp l q)) (Some y) (get labels_cmp m q)) (sym is_labels))
+    (subst (λ found. IsMore labels_cmp_total labels_cmp_exact labels_of ArePoints found y row) (sym (ap (get labels_cmp m) is_labels ∙ is)) (λ some points. points_with x y timestamp value adds some row is_time is_value points))
     before
 
 -- labels that were not there
-pub ranges_new : (m n : BTreeMap Labels Points) (rows : List Row) (row : Row) (stored : Labels) (y : Points)
+pub ranges_new : (m n : BTreeMap Labels Points) (rows : List Row) (row : Row) (labels stored : Labels) (y : Points)
     → IsOrdered labels_cmp n
-    → get labels_cmp m row.labels ≡ None
-    → stored ≡ row.labels
+    → get labels_cmp m labels ≡ None
+    → stored ≡ labels
     → ((q : Labels) → get labels_cmp n q ≡ cond (is_eq (labels_cmp stored q)) (Some y) (get labels_cmp m q))
     → ArePoints y (row ∷ [])
+    → row.labels ≡ labels
     → AreRanges m rows → AreRanges n (rows ++ row ∷ [])
-ranges_new m n rows row stored y rising none is_labels updates points before =
+ranges_new m n rows row labels stored y rising none is_stored updates points is_labels before =
     groups_more labels_cmp_total labels_cmp_exact labels_of ArePoints m n rows row y rising
-    (λ q. updates q ∙ ap (λ s. cond (is_eq (labels_cmp s q)) (Some y) (get labels_cmp m q)) is_labels)
-    (subst (λ found. IsMore labels_cmp_total labels_cmp_exact labels_of ArePoints found y row) (sym none) points)
+    (λ q. updates q ∙ ap (λ s. cond (is_eq (labels_cmp s q)) (Some y) (get labels_cmp m q)) (is_stored ∙ sym is_labels))
+    (subst (λ found. IsMore labels_cmp_total labels_cmp_exact labels_of ArePoints found y row) (sym (ap (get labels_cmp m) is_labels ∙ none)) points)
     before
 
 -- points that find the same

@@ -1,5 +1,5 @@
 -- Sums of rows by a key, as rows are added, and as they are listed.
-use Rattle.std.proofs.Common.{◌≡◌, ℕ, ℤ, pos, ◌+ℤ◌, cond, List, [], ◌∷◌, ◌++◌, map, refl, sym, ◌∙◌, ap, Some, None, unwrap_or}
+use Rattle.std.proofs.Common.{◌≡◌, ℕ, ℤ, pos, ◌+ℤ◌, cond, List, [], ◌∷◌, ◌++◌, map, refl, sym, ◌∙◌, ap, subst, Some, None, unwrap_or}
 use Rattle.std.specs.Prelude.{Option}
 use Rattle.std.specs.declared.cmp.Ordering.{Ordering}
 use Rattle.std.specs.Ordering.{is_eq, int_cmp}
@@ -9,11 +9,10 @@ use Rattle.std.specs.FinMap.{IsAntisymmetric, slice_cmp-IsAntisymmetric, nat_cmp
 use Rattle.std.specs.BTreeMap.{BTreeMap, IsOrdered, get}
 use Rattle.std.proofs.Math.IntN.{+ℤ_assoc, +ℤ_idl, +ℤ_idr}
 use Rattle.fd_kinds.specs.declared.row.Row.{Row}
-use Rattle.fd_kinds.specs.declared.query.StackSum.{StackSum}
 use Rattle.fd_kinds.specs.declared.query.Point.{Point}
-use Rattle.fd_kinds.specs.Meaning.{stack_cmp, value_sum, stack_sums, points_of}
+use Rattle.fd_kinds.specs.Meaning.{stack_cmp, value_sum, points_of}
 use Rattle.fd_scan.specs.Adding.{Adds, FindsSame}
-use Rattle.fd_scan.specs.Grouped.{IsGrouped, IsSum, AreStackSums, ArePoints}
+use Rattle.fd_scan.specs.Grouped.{IsGrouped, IsSum, ArePoints}
 use Rattle.fd_scan.proofs.Grouped.{groups_more, same_groups, groups_listed, IsMore}
 
 abbrev pub Stack : Type 0
@@ -57,26 +56,18 @@ module _ {K : Type 0} {R : K → K → Ordering} (o : IsTotalOrder R) (exact : I
         ∙ ap (λ v. cond (is_eq (R k q)) (Some v) (get R m q)) (is_value ∙ sym (+ℤ_idl value) ∙ ap (λ before. unwrap_or before (pos 0) +ℤ value) (sym none));
   }
 
-pub stacks_more : (m n : BTreeMap Stack ℤ) (rows : List Row) (row : Row) → Adds stack_cmp row.stack row.value m n → AreStackSums m rows → AreStackSums n (rows ++ row ∷ [])
-stacks_more m n rows row adds before = sums_more stack_cmp_total stack_cmp_exact (λ row. row.stack) m n rows row adds before
-
-pub stacks_same : (m n : BTreeMap Stack ℤ) (rows : List Row) → FindsSame stack_cmp m n → AreStackSums m rows → AreStackSums n rows
-stacks_same m n rows same before = sums_same stack_cmp_total stack_cmp_exact (λ row. row.stack) m n rows same before
-
 pub points_more : (m n : BTreeMap ℤ ℤ) (rows : List Row) (row : Row) → Adds int_cmp row.timestamp row.value m n → ArePoints m rows → ArePoints n (rows ++ row ∷ [])
 points_more m n rows row adds before = sums_more int_cmp_total int_cmp-IsAntisymmetric (λ row. row.timestamp) m n rows row adds before
+
+-- the points with the value of one more row
+pub points_with : (m n : BTreeMap ℤ ℤ) (timestamp value : ℤ) → Adds int_cmp timestamp value m n → (rows : List Row) (row : Row) → row.timestamp ≡ timestamp → row.value ≡ value → ArePoints m rows → ArePoints n (rows ++ row ∷ [])
+points_with m n timestamp value adds rows row is_time is_value before =
+    points_more m n rows row (subst (λ t. Adds int_cmp t row.value m n) (sym is_time) (subst (λ v. Adds int_cmp timestamp v m n) (sym is_value) adds)) before
 
 pub points_same : (m n : BTreeMap ℤ ℤ) (rows : List Row) → FindsSame int_cmp m n → ArePoints m rows → ArePoints n rows
 points_same m n rows same before = sums_same int_cmp_total int_cmp-IsAntisymmetric (λ row. row.timestamp) m n rows same before
 
 -- ---- the lists
-
-abbrev pub to_sum : Stack × ℤ → StackSum
-to_sum e = record { stack = e.0; value = e.1 }
-
-pub sums_from_map : (m : BTreeMap Stack ℤ) (rows : List Row) → AreStackSums m rows → map to_sum m.entries ≡ stack_sums rows
-sums_from_map m rows groups =
-    groups_listed stack_cmp_total stack_cmp_exact (λ row. row.stack) IsSum to_sum (λ stack some. record { stack = stack; value = value_sum some }) (λ stack sum some is. ap (λ n. record { stack = stack; value = n }) is) m rows groups
 
 abbrev pub to_point : ℤ × ℤ → Point
 to_point e = record { timestamp = e.0; value = e.1 }

@@ -42,7 +42,7 @@ AreGroups (query.LabelNames selector window) rows (groups.Names names) = names.k
 AreGroups (query.Values name selector window) rows (groups.Values values) = (values.name ≡ name) × (values.found.keys ≡ label_values name rows)
 AreGroups (query.Series selector window) rows (groups.Series series) = AreDistinct series_cmp series.found.keys series.last (map series_of rows)
 AreGroups (query.Range selector window) rows (groups.Range ranges) = AreRanges ranges rows
-AreGroups (query.Merge selector window) rows (groups.Merge sums) = AreSums sums.by_stack sums.total rows
+AreGroups (query.Merge selector window) rows (groups.Merge sums) = AreSums sums.slots sums.sums.items sums.total rows
 AreGroups query rows other = ⊥
 
 -- exactly these rows were gathered for the query; those among them that count for it are in the groups

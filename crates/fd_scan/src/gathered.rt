@@ -1,17 +1,22 @@
-ghost use Rattle.std.specs.Prelude.{◌≡◌, ℕ, List, [], ◌∷◌, ◌++◌, take, OnOk, OnErr, IfOk};
+ghost use Rattle.std.specs.Prelude.{◌≡◌, ◌<◌, length, All, ℕ, List, [], ◌∷◌, ◌++◌, take, OnOk, OnErr, IfOk};
 ghost use Rattle.fd_kinds.specs.declared.row.Row.{Row};
 ghost use Rattle.fd_kinds.specs.declared.query.Query.{Query};
 ghost use Rattle.fd_kinds.specs.Meaning.{meaning};
+ghost use Rattle.fd_kinds.specs.Parts.{rows_of};
+ghost use Rattle.fd_scan.specs.Places.{row_at, rows_at};
 ghost use Rattle.fd_scan.specs.Gathers.{AreGathered, AreGroups, counted};
 
 use crate::counting::counts;
-use crate::names::{LabelValues, add_names};
-use crate::ranges::{Ranges, add_to_range, listed_ranges};
+use crate::names::{LabelValues, add_names, add_names_at};
+use crate::places::counted_places;
+use crate::ranges::{Ranges, add_to_range, add_to_range_at, listed_ranges};
 use crate::recent::Recent;
-use crate::series::add_series;
+use crate::series::{add_series, add_series_at};
 use crate::sets::listed;
+use crate::summing::add_sums;
 use crate::sums::Sums;
-use crate::types::add_type;
+use crate::types::{add_type, add_type_at};
+use fd_column::Columns;
 use fd_kinds::{Answer, NoMemory, ProfileType, Query, Row, SeriesName, Share, Text};
 use std::alloc::Global;
 use std::collections::{BTreeMap, BTreeSet};
@@ -62,11 +67,75 @@ impl Groups {
     {
         match self {
             Groups::Types(types) => add_type(types, row),
-            Groups::Names(names) => add_names(names, row),
+            Groups::Names(names) => add_names(names, &row.labels),
             Groups::Values(values) => values.add(row),
             Groups::Series(series) => add_series(series, row),
-            Groups::Range(ranges) => add_to_range(alloc, ranges, row),
-            Groups::Merge(sums) => sums.add(row),
+            Groups::Range(ranges) => {
+                add_to_range(alloc, ranges, &row.labels, row.timestamp, row.value)
+            }
+            Groups::Merge(sums) => sums.add_row(row),
+        }
+    }
+
+    /// Adds the row at a place, which counts for the query, or nothing where memory is wanting.
+    fn add_at<C: Columns>(&mut self, alloc: Global, columns: &C, at: usize) -> Result<(), NoMemory>
+        requires { at < length (C.rows columns.now) }
+        ensures ok { OnOk result (
+            (query : Query) → (rows : List Row) → AreGroups query rows self.old
+            → AreGroups query (rows ++ row_at (C.rows columns.now) at ∷ []) self.new) }
+        ensures err { OnErr result (
+            (query : Query) → (rows : List Row) → AreGroups query rows self.old → AreGroups query rows self.new) }
+    {
+        match self {
+            Groups::Types(types) => add_type_at(alloc, types, columns, at),
+            Groups::Names(names) => add_names_at(names, columns, at),
+            Groups::Values(values) => values.add_at(alloc, columns, at),
+            Groups::Series(series) => add_series_at(alloc, series, columns, at),
+            Groups::Range(ranges) => add_to_range_at(alloc, ranges, columns, at),
+            Groups::Merge(sums) => sums.add_at(columns, at),
+        }
+    }
+
+    /// Adds the rows at the places, which count for the query, one by one; after a refusal a first
+    /// part of them.
+    fn add_each<C: Columns>(
+        &mut self,
+        alloc: Global,
+        columns: &C,
+        places: &[usize],
+    ) -> Result<(), NoMemory>
+        requires { All (λ at. at < length (C.rows columns.now)) places.now }
+        ensures ok { OnOk result (
+            (query : Query) → (rows : List Row) → AreGroups query rows self.old
+            → AreGroups query (rows ++ rows_at (C.rows columns.now) places.now) self.new) }
+        ensures err { OnErr result (
+            (k : ℕ) × ((query : Query) → (rows : List Row) → AreGroups query rows self.old
+            → AreGroups query (rows ++ rows_at (C.rows columns.now) (take k places.now)) self.new)) }
+    {
+        for at in places {
+            self.add_at(alloc, columns, *at)?;
+        }
+        Ok(())
+    }
+
+    /// Adds the rows at the places, which count for the query; after a refusal a first part of them.
+    fn add_places<C: Columns>(
+        &mut self,
+        alloc: Global,
+        columns: &C,
+        places: &[usize],
+    ) -> Result<(), NoMemory>
+        requires { All (λ at. at < length (C.rows columns.now)) places.now }
+        ensures ok { OnOk result (
+            (query : Query) → (rows : List Row) → AreGroups query rows self.old
+            → AreGroups query (rows ++ rows_at (C.rows columns.now) places.now) self.new) }
+        ensures err { OnErr result (
+            (k : ℕ) × ((query : Query) → (rows : List Row) → AreGroups query rows self.old
+            → AreGroups query (rows ++ rows_at (C.rows columns.now) (take k places.now)) self.new)) }
+    {
+        match self {
+            Groups::Merge(sums) => add_sums(alloc, sums, columns, places),
+            _ => self.add_each(alloc, columns, places),
         }
     }
 
@@ -140,4 +209,21 @@ impl Gathered {
         let Gathered { alloc, groups } = self;
         groups.answer(alloc)
     }
+}
+
+/// Gathers the rows of the columns, those that count for the query among them; after a refusal a
+/// first part of them. The query is the one that `new` took.
+pub fn scan<C: Columns>(query: &Query, columns: &C, gathered: &mut Gathered) -> Result<(), NoMemory>
+    ensures ok { OnOk result (
+        (before : List Row) → AreGathered query.now before gathered.old
+        → AreGathered query.now (before ++ rows_of (C.rows columns.now)) gathered.new) }
+    ensures err { OnErr result (
+        (k : ℕ) × ((before : List Row) → AreGathered query.now before gathered.old
+        → AreGathered query.now (before ++ take k (rows_of (C.rows columns.now))) gathered.new)) }
+{
+    let alloc = gathered.alloc;
+    let places = counted_places(alloc, columns, query)?;
+    gathered
+        .groups
+        .add_places(alloc, columns, places.as_slice())
 }

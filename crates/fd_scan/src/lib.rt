@@ -1,19 +1,23 @@
 //! Scans of rows for queries: what a query asks of the rows is gathered, and then answered.
 #![tactic(auto)]
 
+mod cells;
 mod counting;
+mod entries;
 mod gathered;
 mod laws;
 mod matching;
 mod names;
+mod places;
 mod ranges;
 mod recent;
 mod series;
 mod sets;
+mod summing;
 mod sums;
 #[cfg(test)]
 mod tests;
 mod types;
 
-pub use gathered::Gathered;
+pub use gathered::{Gathered, scan};
 pub use laws::distinct_laws;

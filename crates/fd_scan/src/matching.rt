@@ -2,7 +2,7 @@ ghost use Rattle.std.specs.Prelude.{◌≡◌, bytes_eq};
 ghost use Rattle.std.specs.List.{list_all};
 ghost use Rattle.std.specs.Option.{option_copied};
 ghost use Rattle.fd_kinds.specs.LabelMaps.{value_of};
-ghost use Rattle.fd_kinds.specs.Meaning.{matched_text, is_match, is_of_type, is_selected, is_within};
+ghost use Rattle.fd_kinds.specs.Meaning.{agrees, matched_text, is_match, is_of_type, is_selected, is_within};
 
 use fd_kinds::{Labels, MatchOp, Matcher, Matchers, ProfileType, Row, Selector, Text, Window};
 
@@ -38,14 +38,20 @@ fn has_text(row: &Row, name: &Text, value: &Text) -> bool
     }
 }
 
-fn is_match(row: &Row, matcher: &Matcher) -> bool
-    ensures { result ≡ is_match row.now matcher.now }
+/// Whether a comparison that found the same or not agrees with what is asked.
+pub fn agrees(op: MatchOp, same: bool) -> bool
+    ensures { result ≡ agrees op same }
 {
-    let same = has_text(row, &matcher.name, &matcher.value);
-    match matcher.op {
+    match op {
         MatchOp::Equal => same,
         MatchOp::NotEqual => !same,
     }
+}
+
+fn is_match(row: &Row, matcher: &Matcher) -> bool
+    ensures { result ≡ is_match row.now matcher.now }
+{
+    agrees(matcher.op, has_text(row, &matcher.name, &matcher.value))
 }
 
 /// Whether the row has the profile type.

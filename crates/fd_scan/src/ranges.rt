@@ -1,51 +1,80 @@
-ghost use Rattle.std.specs.Prelude.{◌≡◌, List, [], ◌∷◌, ◌++◌, map, OnOk, OnErr, IfOk};
+ghost use Rattle.std.specs.Prelude.{◌≡◌, ◌<◌, length, List, [], ◌∷◌, ◌++◌, map, OnOk, OnErr, IfOk};
 ghost use Rattle.fd_kinds.specs.declared.row.Row.{Row};
 ghost use Rattle.fd_kinds.specs.Meaning.{points_of, ranges_of};
 ghost use Rattle.std.specs.Ordering.{int_cmp};
 ghost use Rattle.fd_scan.specs.Adding.{Adds, FindsSame};
+ghost use Rattle.fd_scan.specs.Places.{row_at};
 ghost use Rattle.fd_scan.specs.Grouped.{ArePoints, AreRanges};
 
+use crate::cells::{labels_at, timestamp_at, value_at};
 use crate::sums::added;
-use fd_kinds::{Items, Labels, NoMemory, OneRange, Point, Points, RangeSeries, Row, Share};
+use fd_column::Columns;
+use fd_kinds::{Items, Labels, NoMemory, OneRange, Point, Points, RangeSeries, Share};
 use std::alloc::Global;
 use std::collections::BTreeMap;
 
 /// The sums at each time, for each labels.
 pub type Ranges = BTreeMap<Labels, BTreeMap<i64, i128>>;
 
-/// Adds the row's value to the sum at its time.
-fn add_at_time(points: &mut BTreeMap<i64, i128>, row: &Row) -> Result<(), NoMemory>
-    ensures ok { OnOk result (Adds int_cmp row.now.timestamp row.now.value points.old points.new) }
+/// Adds the value to the sum at the time.
+fn add_at_time(points: &mut BTreeMap<i64, i128>, timestamp: i64, value: i64) -> Result<(), NoMemory>
+    ensures ok { OnOk result (Adds int_cmp timestamp value points.old points.new) }
     ensures err { OnErr result (FindsSame int_cmp points.old points.new) }
 {
-    if !added(points, &row.timestamp, row.value)? {
-        points.insert(row.timestamp, i128::from(row.value))?;
+    if !added(points, &timestamp, value)? {
+        points.insert(timestamp, i128::from(value))?;
     }
     Ok(())
 }
 
-/// The points of the row alone.
-fn one_point(alloc: Global, row: &Row) -> Result<BTreeMap<i64, i128>, NoMemory>
-    ensures { IfOk result (λ points. ArePoints points (row.now ∷ [])) }
+/// The points of one row with this timestamp and value.
+fn one_point(alloc: Global, timestamp: i64, value: i64) -> Result<BTreeMap<i64, i128>, NoMemory>
+    ensures { IfOk result (λ points.
+        (row : Row) → row.timestamp ≡ timestamp → row.value ≡ value → ArePoints points (row ∷ [])) }
 {
     let mut points = BTreeMap::new(alloc);
-    add_at_time(&mut points, row)?;
+    add_at_time(&mut points, timestamp, value)?;
     Ok(points)
 }
 
-/// Adds the row's value to the points of its labels, at its time.
-pub fn add_to_range(alloc: Global, ranges: &mut Ranges, row: &Row) -> Result<(), NoMemory>
+/// Adds the value of a row with this timestamp to the points of its labels.
+pub fn add_to_range(
+    alloc: Global,
+    ranges: &mut Ranges,
+    labels: &Labels,
+    timestamp: i64,
+    value: i64,
+) -> Result<(), NoMemory>
     ensures ok { OnOk result (
-        (rows : List Row) → AreRanges ranges.old rows → AreRanges ranges.new (rows ++ row.now ∷ [])) }
+        (rows : List Row) → (row : Row) → row.labels ≡ labels.now → row.timestamp ≡ timestamp → row.value ≡ value
+        → AreRanges ranges.old rows → AreRanges ranges.new (rows ++ row ∷ [])) }
     ensures err { OnErr result ((rows : List Row) → AreRanges ranges.old rows → AreRanges ranges.new rows) }
 {
-    match ranges.get_mut(&row.labels) {
-        Some(points) => add_at_time(points, row),
+    match ranges.get_mut(labels) {
+        Some(points) => add_at_time(points, timestamp, value),
         None => {
-            ranges.insert(row.labels.share()?, one_point(alloc, row)?)?;
+            ranges.insert(labels.share()?, one_point(alloc, timestamp, value)?)?;
             Ok(())
         }
     }
+}
+
+/// Adds the value of the row at a place to the points of its labels, at its time.
+pub fn add_to_range_at<C: Columns>(
+    alloc: Global,
+    ranges: &mut Ranges,
+    columns: &C,
+    at: usize,
+) -> Result<(), NoMemory>
+    requires { at < length (C.rows columns.now) }
+    ensures ok { OnOk result (
+        (rows : List Row) → AreRanges ranges.old rows
+        → AreRanges ranges.new (rows ++ row_at (C.rows columns.now) at ∷ [])) }
+    ensures err { OnErr result ((rows : List Row) → AreRanges ranges.old rows → AreRanges ranges.new rows) }
+{
+    let labels = labels_at(columns, at)?;
+    let timestamp = timestamp_at(columns, at);
+    add_to_range(alloc, ranges, &labels, timestamp, value_at(columns, at))
 }
 
 /// The points by rising time.

@@ -1,10 +1,14 @@
-ghost use Rattle.std.specs.Prelude.{◌≡◌, true, List, [], ◌∷◌, ◌++◌, map, OnOk, OnErr, IfOk, Some};
+ghost use Rattle.std.specs.Prelude.{◌≡◌, ◌<◌, true, length, List, [], ◌∷◌, ◌++◌, map, OnOk, OnErr, IfOk, Some};
 ghost use Rattle.fd_kinds.specs.declared.row.Row.{Row};
 ghost use Rattle.fd_kinds.specs.Meaning.{series_of, series_cmp};
+ghost use Rattle.fd_scan.specs.Places.{row_at};
 ghost use Rattle.fd_scan.specs.Recents.{AreDistinct};
 
+use crate::cells::{labels_at, name_at};
 use crate::recent::Recent;
+use fd_column::Columns;
 use fd_kinds::{NoMemory, Row, SeriesName, Share};
+use std::alloc::Global;
 use std::cmp::Ordering;
 
 /// A copy of the name and the labels of the row's series.
@@ -42,4 +46,36 @@ pub fn add_series(series: &mut Recent<SeriesName>, row: &Row) -> Result<(), NoMe
         return Ok(());
     }
     series.add(series_of(row)?, series_of(row)?)
+}
+
+/// A copy of the name and the labels of the series of the row at a place.
+fn series_at<C: Columns>(alloc: Global, columns: &C, at: usize) -> Result<SeriesName, NoMemory>
+    requires { at < length (C.rows columns.now) }
+    ensures { IfOk result (λ series. series ≡ series_of (row_at (C.rows columns.now) at)) }
+{
+    Ok(SeriesName {
+        name: name_at(alloc, columns, at)?,
+        labels: labels_at(columns, at)?,
+    })
+}
+
+/// Adds the series of the row at a place.
+pub fn add_series_at<C: Columns>(
+    alloc: Global,
+    series: &mut Recent<SeriesName>,
+    columns: &C,
+    at: usize,
+) -> Result<(), NoMemory>
+    requires { at < length (C.rows columns.now) }
+    ensures ok { OnOk result (
+        (rows : List Row) → AreDistinct series_cmp series.old.found.keys series.old.last (map series_of rows)
+        → AreDistinct series_cmp series.new.found.keys series.new.last (map series_of (rows ++ row_at (C.rows columns.now) at ∷ []))) }
+    ensures err { OnErr result (
+        (rows : List Row) → AreDistinct series_cmp series.old.found.keys series.old.last (map series_of rows)
+        → AreDistinct series_cmp series.new.found.keys series.new.last (map series_of rows)) }
+{
+    series.add(
+        series_at(alloc, columns, at)?,
+        series_at(alloc, columns, at)?,
+    )
 }

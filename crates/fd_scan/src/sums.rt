@@ -1,12 +1,15 @@
-ghost use Rattle.std.specs.Prelude.{◌≡◌, ℤ, ◌+ℤ◌, List, [], ◌∷◌, ◌++◌, OnOk, OnErr, IfOk, cond, Some, unwrap_or, true, pos};
+ghost use Rattle.std.specs.Prelude.{◌≡◌, ◌<◌, length, ℤ, ◌+ℤ◌, List, [], ◌∷◌, ◌++◌, OnOk, OnErr, IfOk, cond, Some, None, slice_set, slice_index_or, unwrap_or, true, pos};
 ghost use Rattle.std.specs.BTreeMap.{get, IsOrdered};
 ghost use Rattle.std.specs.Ordering.{is_eq};
 ghost use Rattle.fd_kinds.specs.declared.row.Row.{Row};
 ghost use Rattle.fd_kinds.specs.Meaning.{stack_sums, value_sum};
-ghost use Rattle.fd_scan.specs.Grouped.{AreSums, AreStackSums};
-ghost use Rattle.fd_scan.specs.Adding.{Adds, FindsSame, AddsWhereFound};
+ghost use Rattle.fd_scan.specs.Places.{row_at};
+ghost use Rattle.fd_scan.specs.Grouped.{AreSums, AreStackSums, KeepsSlots};
+ghost use Rattle.fd_scan.specs.Adding.{AddsWhereFound};
 ghost use Rattle.fd_kinds.specs.Meaning.{stack_cmp};
 
+use crate::cells::{stack_at, value_at};
+use fd_column::Columns;
 use fd_kinds::{Items, NoMemory, Row, Share, Stack, StackSum, StackSums};
 use std::alloc::Global;
 use std::collections::BTreeMap;
@@ -25,70 +28,165 @@ pub fn added<K: Ord>(sums: &mut BTreeMap<K, i128>, key: &K, value: i64) -> Resul
     }
 }
 
-/// Adds the row's value to the sum of its stack.
-fn add_to_stack(by_stack: &mut BTreeMap<Stack, i128>, row: &Row) -> Result<(), NoMemory>
-    ensures ok { OnOk result (Adds stack_cmp row.now.stack row.now.value by_stack.old by_stack.new) }
-    ensures err { OnErr result (FindsSame stack_cmp by_stack.old by_stack.new) }
+/// Adds the value to the sum at a place. There is a sum at each place that a stack has.
+fn add_to_slot(sums: &mut Vec<i128>, slot: usize, value: i64) -> Result<(), NoMemory>
+    ensures ok { OnOk result (sums.new.items ≡ slice_set sums.old.items slot (slice_index_or sums.old.items slot (pos 0) +ℤ value)) }
+    ensures err { OnErr result (sums.new.items ≡ sums.old.items) }
 {
-    if !added(by_stack, &row.stack, row.value)? {
-        by_stack.insert(row.stack.share()?, i128::from(row.value))?;
+    if slot >= sums.len() {
+        return Err(NoMemory);
     }
+    let sum = sums[slot].checked_add(i128::from(value)).ok_or(NoMemory)?;
+    sums[slot] = sum;
     Ok(())
 }
 
-/// The stacks and their sums, in the order of the stacks.
-fn listed(alloc: Global, by_stack: BTreeMap<Stack, i128>) -> Result<StackSums, NoMemory>
-    ensures { IfOk result (λ sums. (rows : List Row) → AreStackSums by_stack rows → sums ≡ stack_sums rows) }
+/// The sum at a place.
+fn sum_at(sums: &[i128], slot: usize) -> i128
+    ensures { result ≡ slice_index_or sums.now slot (pos 0) }
 {
-    let mut sums = Items::new(alloc);
-    for (stack, value) in by_stack {
-        sums.push(StackSum { stack, value })?;
-    }
-    Ok(sums)
+    if slot < sums.len() { sums[slot] } else { 0 }
 }
 
-/// The sums of the values of rows, for each stack and of all.
+/// The stacks and their sums, in the order of the stacks.
+fn listed(
+    alloc: Global,
+    slots: BTreeMap<Stack, usize>,
+    sums: &[i128],
+) -> Result<StackSums, NoMemory>
+    ensures { IfOk result (λ list. (rows : List Row) → AreStackSums sums.now slots rows → list ≡ stack_sums rows) }
+{
+    let mut list = Items::new(alloc);
+    for (stack, slot) in slots {
+        list.push(StackSum {
+            stack,
+            value: sum_at(sums, slot),
+        })?;
+    }
+    Ok(list)
+}
+
+/// The sums of the values of rows, for each stack and of all. Each stack has the place of its sum.
 #[derive(Drop)]
 pub struct Sums {
-    by_stack: BTreeMap<Stack, i128>,
+    slots: BTreeMap<Stack, usize>,
+    sums: Vec<i128>,
     total: i128,
 }
 
 impl Sums {
     pub fn new(alloc: Global) -> Sums
-        ensures { AreSums result.by_stack result.total [] }
+        ensures { AreSums result.slots result.sums.items result.total [] }
     {
         Sums {
-            by_stack: BTreeMap::new(alloc),
+            slots: BTreeMap::new(alloc),
+            sums: Vec::new(alloc),
             total: 0,
         }
     }
 
-    /// Adds the row's value.
-    pub fn add(&mut self, row: &Row) -> Result<(), NoMemory>
+    /// Adds the value of a row whose stack has its sum at the place.
+    pub fn add_known(&mut self, slot: usize, value: i64) -> Result<(), NoMemory>
+        ensures slots { self.new.slots ≡ self.old.slots }
         ensures ok { OnOk result (
-            (rows : List Row) → AreSums self.old.by_stack self.old.total rows
-            → AreSums self.new.by_stack self.new.total (rows ++ row.now ∷ [])) }
+            (rows : List Row) → (row : Row) → get stack_cmp self.old.slots row.stack ≡ Some slot → row.value ≡ value
+            → AreSums self.old.slots self.old.sums.items self.old.total rows
+            → AreSums self.new.slots self.new.sums.items self.new.total (rows ++ row ∷ [])) }
         ensures err { OnErr result (
-            (rows : List Row) → AreSums self.old.by_stack self.old.total rows
-            → AreSums self.new.by_stack self.new.total rows) }
+            (rows : List Row) → AreSums self.old.slots self.old.sums.items self.old.total rows
+            → AreSums self.new.slots self.new.sums.items self.new.total rows) }
     {
-        let total = self
-            .total
-            .checked_add(i128::from(row.value))
-            .ok_or(NoMemory)?;
-        add_to_stack(&mut self.by_stack, row)?;
+        let total = self.total.checked_add(i128::from(value)).ok_or(NoMemory)?;
+        add_to_slot(&mut self.sums, slot, value)?;
         self.total = total;
+        Ok(())
+    }
+
+    /// Adds the value of a row whose stack has no sum, and answers the place of its new one.
+    fn add_new(&mut self, stack: &Stack, value: i64) -> Result<usize, NoMemory>
+        requires { get stack_cmp self.old.slots stack.now ≡ None }
+        ensures slot { IfOk result (λ slot. get stack_cmp self.new.slots stack.now ≡ Some slot) }
+        ensures kept { KeepsSlots self.old.slots self.new.slots }
+        ensures ok { OnOk result (
+            (rows : List Row) → (row : Row) → row.stack ≡ stack.now → row.value ≡ value
+            → AreSums self.old.slots self.old.sums.items self.old.total rows
+            → AreSums self.new.slots self.new.sums.items self.new.total (rows ++ row ∷ [])) }
+        ensures err { OnErr result (
+            (rows : List Row) → AreSums self.old.slots self.old.sums.items self.old.total rows
+            → AreSums self.new.slots self.new.sums.items self.new.total rows) }
+    {
+        let total = self.total.checked_add(i128::from(value)).ok_or(NoMemory)?;
+        let copy = stack.share()?;
+        let slot = self.sums.len();
+        self.sums.push(i128::from(value))?;
+        self.slots.insert(copy, slot)?;
+        self.total = total;
+        Ok(slot)
+    }
+
+    /// The place of the stack's sum, where it has one.
+    fn slot_of(&self, stack: &Stack) -> Option<usize>
+        ensures { result ≡ get stack_cmp self.now.slots stack.now }
+    {
+        self.slots.get(stack).copied()
+    }
+
+    /// Adds the value of a row with this stack, and answers the place of the stack's sum.
+    pub fn add(&mut self, stack: &Stack, value: i64) -> Result<usize, NoMemory>
+        ensures slot { IfOk result (λ slot. get stack_cmp self.new.slots stack.now ≡ Some slot) }
+        ensures kept { KeepsSlots self.old.slots self.new.slots }
+        ensures ok { OnOk result (
+            (rows : List Row) → (row : Row) → row.stack ≡ stack.now → row.value ≡ value
+            → AreSums self.old.slots self.old.sums.items self.old.total rows
+            → AreSums self.new.slots self.new.sums.items self.new.total (rows ++ row ∷ [])) }
+        ensures err { OnErr result (
+            (rows : List Row) → AreSums self.old.slots self.old.sums.items self.old.total rows
+            → AreSums self.new.slots self.new.sums.items self.new.total rows) }
+    {
+        match self.slot_of(stack) {
+            Some(slot) => {
+                self.add_known(slot, value)?;
+                Ok(slot)
+            }
+            None => self.add_new(stack, value),
+        }
+    }
+
+    /// Adds the row's value.
+    pub fn add_row(&mut self, row: &Row) -> Result<(), NoMemory>
+        ensures ok { OnOk result (
+            (rows : List Row) → AreSums self.old.slots self.old.sums.items self.old.total rows
+            → AreSums self.new.slots self.new.sums.items self.new.total (rows ++ row.now ∷ [])) }
+        ensures err { OnErr result (
+            (rows : List Row) → AreSums self.old.slots self.old.sums.items self.old.total rows
+            → AreSums self.new.slots self.new.sums.items self.new.total rows) }
+    {
+        self.add(&row.stack, row.value)?;
+        Ok(())
+    }
+
+    /// Adds the value of the row at a place.
+    pub fn add_at<C: Columns>(&mut self, columns: &C, at: usize) -> Result<(), NoMemory>
+        requires { at < length (C.rows columns.now) }
+        ensures ok { OnOk result (
+            (rows : List Row) → AreSums self.old.slots self.old.sums.items self.old.total rows
+            → AreSums self.new.slots self.new.sums.items self.new.total (rows ++ row_at (C.rows columns.now) at ∷ [])) }
+        ensures err { OnErr result (
+            (rows : List Row) → AreSums self.old.slots self.old.sums.items self.old.total rows
+            → AreSums self.new.slots self.new.sums.items self.new.total rows) }
+    {
+        let stack = stack_at(columns, at)?;
+        self.add(&stack, value_at(columns, at))?;
         Ok(())
     }
 
     /// The sums as a list, and the total.
     pub fn into_list(self, alloc: Global) -> Result<(StackSums, i128), NoMemory>
         ensures { IfOk result (λ list.
-            (rows : List Row) → AreSums self.by_stack self.total rows
+            (rows : List Row) → AreSums self.slots self.sums.items self.total rows
             → (list.0 ≡ stack_sums rows) × (list.1 ≡ value_sum rows)) }
     {
-        let Sums { by_stack, total } = self;
-        Ok((listed(alloc, by_stack)?, total))
+        let Sums { slots, sums, total } = self;
+        Ok((listed(alloc, slots, sums.as_slice())?, total))
     }
 }

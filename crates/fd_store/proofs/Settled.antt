@@ -1,8 +1,8 @@
 -- The parts of a shelf up to its mark, and the batch that it gains.
-use Rattle.std.specs.Prelude.{◌≡◌, ℕ, zero, suc, ◌+◌, ◌-◌, ◌≤◌, ◌<◌, Bool, true, false, nat_le, ◌==◌, if◌then◌else◌, List, [], ◌∷◌, ◌++◌, length, map, filter, flat_map, slice_index_or, IsSorted, IsPermutation, refl}
+use Rattle.std.specs.Prelude.{◌≡◌, ℕ, zero, suc, ◌+◌, ◌≤◌, Bool, true, false, if◌then◌else◌, List, [], ◌∷◌, ◌++◌, map, filter, flat_map, slice_index_or, IsSorted, refl}
 use Rattle.std.specs.Ordering.{is_lt}
 use Rattle.std.proofs.Common.{arith, ap, sym, ◌∙◌, subst}
-use Rattle.std.proofs.lemmas.List.{append-nil, append_assoc, map-append}
+use Rattle.std.proofs.lemmas.List.{map-append}
 use Rattle.std.proofs.lemmas.List.Concat.{flat_map-cons}
 use Rattle.fd_kinds.specs.declared.row.Row.{Row}
 use Rattle.fd_kinds.specs.declared.row.Numbered.{Numbered}
@@ -65,8 +65,8 @@ pub in_order_of_sorted : (rows : List Row) → IsSorted row_cmp rows → in_row_
 in_order_of_sorted [] sorted = refl
 in_order_of_sorted (r ∷ rows) sorted =
     let later : IsSorted row_cmp rows = λ k d low inside. (
-      let next : suc k + 1 ≡ suc (k + 1) = omega arith in
-      subst (λ (n : ℕ). is_lt (row_cmp (slice_index_or (r ∷ rows) n d) (slice_index_or (r ∷ rows) (suc k) d)) ≡ false) next (sorted (suc k) d (omega arith) (omega (arith, inside)))
+    let next : suc k + 1 ≡ suc (k + 1) = omega arith in
+    subst (λ (n : ℕ). is_lt (row_cmp (slice_index_or (r ∷ rows) n d) (slice_index_or (r ∷ rows) (suc k) d)) ≡ false) next (sorted (suc k) d (omega arith) (omega (arith, inside)))
     ) in
     ap (put_row r) (in_order_of_sorted rows later) ∙ put_first r rows sorted
 

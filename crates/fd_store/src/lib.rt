@@ -1,9 +1,6 @@
 //! Stores of batches.
 #![tactic(auto)]
 
-mod answering;
 mod local;
-mod part;
 
 pub use local::Local;
-pub use part::PlainPart;

@@ -2,12 +2,12 @@ ghost use Rattle.std.specs.Prelude.{◌≡◌, ◌<◌, ◌≤◌, ◌+◌, ◌^
 ghost use Rattle.fd_kinds.specs.Parts.{rows_of};
 ghost use Rattle.fd_shelf.specs.Books.{IsLoose, settled_parts, bytes_of, MOST_BATCH};
 ghost use Rattle.fd_shelf.specs.Histories.{hist, in_row_order};
-ghost use Rattle.fd_store.specs.PlainParts.{plain_part};
+ghost use Rattle.fd_part.specs.Parts.{part_meaning};
 
-use crate::PlainPart;
-use crate::answering::answer;
+use fd_answer::answer;
 use fd_kinds::{Batch, Held, NoMemory, Query, ReadRefusal, Seen, Stand, Store, WriteRefusal};
 use fd_meaning::order_laws;
+use fd_part::Part;
 use fd_shelf::{Picked, Shelf};
 use std::marker::Model;
 
@@ -18,7 +18,7 @@ const MOST_NUMBERS: u64 = 1 << 62;
 /// batches, of which the first has the number 1.
 #[derive(Debug, Drop)]
 pub struct Local {
-    shelf: Shelf<PlainPart>,
+    shelf: Shelf<Part>,
 }
 
 impl Model for Local {
@@ -34,16 +34,16 @@ impl Model for Local {
 }
 
 /// Adds a batch that has no number, under the number that follows the mark.
-fn add(shelf: &mut Shelf<PlainPart>, part: PlainPart)
+fn add(shelf: &mut Shelf<Part>, part: Part)
     requires alone { shelf.old.book.stragglers ≡ [] }
-    requires loose { IsLoose (plain_part part) }
-    requires unnumbered { (plain_part part).lo ≡ 0 }
+    requires loose { IsLoose (part_meaning part) }
+    requires unnumbered { (part_meaning part).lo ≡ 0 }
     requires room { shelf.old.mark < 2 ^ 62 }
-    requires small { bytes_of (plain_part part).rows ≤ MOST_BATCH }
+    requires small { bytes_of (part_meaning part).rows ≤ MOST_BATCH }
     requires spare { 0 < shelf.old.spare }
     ensures alone { shelf.new.book.stragglers ≡ [] }
     ensures mark { shelf.new.mark ≡ shelf.old.mark + 1 }
-    ensures history { hist shelf.new.book shelf.new.mark ≡ hist shelf.old.book shelf.old.mark ++ in_row_order (rows_of (plain_part part).rows) ∷ [] }
+    ensures history { hist shelf.new.book shelf.new.mark ≡ hist shelf.old.book shelf.old.mark ++ in_row_order (rows_of (part_meaning part).rows) ∷ [] }
 {
     let mut part = part;
     part.number(shelf.mark() + 1);
@@ -52,7 +52,7 @@ fn add(shelf: &mut Shelf<PlainPart>, part: PlainPart)
 }
 
 /// How many batches there are.
-fn drawn(shelf: &Shelf<PlainPart>) -> u64
+fn drawn(shelf: &Shelf<Part>) -> u64
     ensures mark { result ≡ shelf.now.mark }
     ensures count { result ≡ length (hist shelf.now.book shelf.now.mark) }
 {
@@ -62,8 +62,8 @@ fn drawn(shelf: &Shelf<PlainPart>) -> u64
 
 /// Shares of all parts, in order.
 #[tactic(auto, using(crate::proofs::Settled::upto_mark, crate::proofs::Settled::whole_at_mark))]
-fn all_parts(shelf: &Shelf<PlainPart>) -> Result<Picked<PlainPart>, NoMemory>
-    ensures { IfOk result (λ picked. map (λ i. plain_part i.part) picked ≡ settled_parts shelf.now.book) }
+fn all_parts(shelf: &Shelf<Part>) -> Result<Picked<Part>, NoMemory>
+    ensures { IfOk result (λ picked. map (λ i. part_meaning i.part) picked ≡ settled_parts shelf.now.book) }
 {
     shelf.is_in_order();
     shelf.parts_upto(shelf.mark())
@@ -71,7 +71,7 @@ fn all_parts(shelf: &Shelf<PlainPart>) -> Result<Picked<PlainPart>, NoMemory>
 
 impl Local {
     /// A store over a shelf without stragglers. It takes no memory.
-    pub fn new(shelf: Shelf<PlainPart>) -> Local
+    pub fn new(shelf: Shelf<Part>) -> Local
         requires { shelf.book.stragglers ≡ [] }
         ensures { result ≡ hist shelf.book shelf.mark }
     {
@@ -79,7 +79,7 @@ impl Local {
     }
 
     /// The shelf of the store. It takes no memory.
-    pub fn close(self) -> Shelf<PlainPart>
+    pub fn close(self) -> Shelf<Part>
         ensures alone { result.book.stragglers ≡ [] }
         ensures history { hist result.book result.mark ≡ self }
     {
@@ -117,7 +117,7 @@ impl Store for Local {
         if drawn >= MOST_NUMBERS {
             return Err(WriteRefusal::Spent { drawn });
         }
-        let part = PlainPart::fresh(batch)?;
+        let part = Part::fresh(batch)?;
         self.shelf.reserve(1)?;
         add(&mut self.shelf, part);
         Ok(drawn + 1)
@@ -129,7 +129,7 @@ impl Store for Local {
             return Err(ReadRefusal::NotDrawn { drawn: watermark });
         }
         let parts = all_parts(&self.shelf)?;
-        let answer = answer(parts.allocator(), query, parts.as_slice())?;
+        let answer = answer(query, &parts)?;
         self.shelf.history_laws();
         order_laws();
         Ok(Seen { watermark, answer })

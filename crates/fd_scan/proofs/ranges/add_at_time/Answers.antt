@@ -11,7 +11,7 @@ use Rattle.fd_scan.proofs.ranges.add_at_time.Goals as goal
 
 pub returns-in_err-insert-clause-err : goal.returns-in_err-insert-clause-err
 returns-in_err-insert-clause-err c =
-    let found : AddsWhereFound int_cmp c.args.row.now.timestamp c.args.row.now.value c.args.points.now (Ok false) c.added.new.sums = search rules in
+    let found : AddsWhereFound int_cmp c.args.timestamp c.args.value c.args.points.now (Ok false) c.added.new.sums = search rules in
     on_err c.from_residual-in_err-insert.result (FindsSame int_cmp c.args.points.now c.insert.new.self) record {
       rising = c.insert.ensures.ordered;
       each = λ k. ap (lookup (is_at (int_cmp k))) c.in_err-insert.ensures.err ∙ found.1.each k;
@@ -19,6 +19,6 @@ returns-in_err-insert-clause-err c =
 
 pub returns-in_ok-insert-clause-ok : goal.returns-in_ok-insert-clause-ok
 returns-in_ok-insert-clause-ok c =
-    let found : AddsWhereFound int_cmp c.args.row.now.timestamp c.args.row.now.value c.args.points.now (Ok false) c.added.new.sums = search rules in
-    adds_new int_cmp_total int_cmp-IsAntisymmetric (λ row. row.timestamp) c.args.points.now c.added.new.sums c.insert.new.self c.args.row.now.timestamp _ c.args.row.now.value _
+    let found : AddsWhereFound int_cmp c.args.timestamp c.args.value c.args.points.now (Ok false) c.added.new.sums = search rules in
+    adds_new int_cmp_total int_cmp-IsAntisymmetric (λ row. row.timestamp) c.args.points.now c.added.new.sums c.insert.new.self c.args.timestamp _ c.args.value _
     found.0 found.1 (search rules) (search rules) c.insert.ensures.ordered c.in_ok-insert.ensures.updates.0

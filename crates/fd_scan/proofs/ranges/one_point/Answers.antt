@@ -5,11 +5,12 @@ use Rattle.std.specs.FinMap.{int_cmp-IsAntisymmetric}
 use Rattle.fd_scan.specs.Adding.{Adds}
 use Rattle.fd_scan.specs.Grouped.{IsSum}
 use Rattle.fd_scan.proofs.Grouped.{groups_none}
-use Rattle.fd_scan.proofs.Summed.{points_more}
+use Rattle.fd_scan.proofs.Summed.{points_with}
 use Rattle.fd_scan.proofs.ranges.one_point.Goals as goal
 
 pub returns : goal.returns
 returns c =
-    let adds : Adds int_cmp c.args.row.now.timestamp c.args.row.now.value c.new-points.result c.add_at_time.new.points = search rules in
-    points_more c.new-points.result c.add_at_time.new.points [] c.args.row.now adds
+    let adds : Adds int_cmp c.args.timestamp c.args.value c.new-points.result c.add_at_time.new.points = search rules in
+    λ row is_time is_value.
+    points_with c.new-points.result c.add_at_time.new.points c.args.timestamp c.args.value adds [] row is_time is_value
     (groups_none int_cmp_total int_cmp-IsAntisymmetric (λ row. row.timestamp) IsSum c.new-points.result c.new-points.ensures.empty)

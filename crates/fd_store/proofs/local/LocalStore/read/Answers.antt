@@ -5,7 +5,7 @@ use Rattle.fd_kinds.specs.Meaning.{meaning}
 use Rattle.fd_kinds.specs.Parts.{rows_of}
 use Rattle.fd_shelf.specs.Books.{settled_parts, rows_in}
 use Rattle.fd_shelf.specs.Histories.{hist}
-use Rattle.fd_store.specs.PlainParts.{plain_part}
+use Rattle.fd_part.specs.Parts.{part_meaning}
 use Rattle.fd_store.proofs.Settled.{rows_of_picked}
 use Rattle.fd_store.proofs.local.LocalStore.read.Goals as goal
 
@@ -18,8 +18,7 @@ returns-clause-gives c =
       omega (arith, counted, c.if-after-watermark.false),
       counted,
       c.in_ok-answer.ensures
-          ∙ ap (λ parts. meaning c.args.query.now (flat_map (λ i. rows_of (plain_part i.part).rows) parts)) c.as_slice.ensures
-          ∙ ap (meaning c.args.query.now) (rows_of_picked (λ i. plain_part i.part) c.in_ok-parts.parts (settled_parts book) c.in_ok-parts.ensures)
+          ∙ ap (meaning c.args.query.now) (rows_of_picked (λ i. part_meaning i.part) c.in_ok-parts.parts (settled_parts book) c.in_ok-parts.ensures)
           ∙ c.order_laws.ensures.meaning c.args.query.now (rows_of (rows_in (settled_parts book))) (upto (hist book mark) mark) c.history_laws.ensures.rows
           ∙ ap (λ history. meaning c.args.query.now (upto history mark)) c.self.view_is
           ∙ ap (λ n. meaning c.args.query.now (upto c.args.self.now n)) is_mark,

@@ -1,0 +1,15 @@
+pub mod CellLaws
+pub mod DictionaryLaws
+pub mod DictionaryOf
+pub mod DictionaryPushes
+pub mod GivenLaws
+pub mod LabelColumns
+pub mod LabelGrowth
+pub mod LabelPlaces
+pub mod LabelsBack
+pub mod NameLaws
+pub mod NamesOf
+pub mod PieceLaws
+pub mod StackLaws
+pub mod Steps
+pub mod TableLaws

@@ -1,0 +1,7 @@
+use Rattle.std.proofs.Common.{rules, ◌+◌}
+use Rattle.fd_column.proofs.DictionaryLaws.{knows_push}
+use Rattle.fd_column.proofs.growing.Entries.with.Goals as goal
+
+pub invariant_of-result : goal.invariant_of-result
+invariant_of-result c =
+    rw c.in_ok-texts.ensures (knows_push c.self.inside.picks c.insert.new.self c.self.inside.texts c.in_ok-key.key c.args.text.now (c.len-2.result + 1) (search rules) (search rules) (search rules) (search rules) c.self.invariant)

@@ -1,0 +1,7 @@
+pub mod Cells
+pub mod Dictionaries
+pub mod Labelled
+pub mod Numbering
+pub mod Pieces
+pub mod Stacks
+pub mod Tables

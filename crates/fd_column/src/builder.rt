@@ -1,0 +1,60 @@
+ghost use Rattle.std.specs.Prelude.{◌≡◌, ◌<◌, ◌^◌, [], ◌∷◌, ◌++◌, List, IfOk, OnOk, IsSorted};
+ghost use Rattle.fd_kinds.specs.declared.row.Numbered.{Numbered};
+ghost use Rattle.fd_column.specs.Numbering.{numbered_cmp};
+
+use crate::grow::{finished_table, new_table, push_row};
+use crate::growing::Growing;
+use crate::part::ColumnPart;
+use crate::table::Table;
+use fd_kinds::{NoMemory, Numbered};
+use std::alloc::Global;
+use std::marker::Model;
+
+/// Numbered rows that are put in columns one after the other, which contracts see as the list of
+/// the rows so far.
+#[derive(Drop)]
+pub struct PartBuilder {
+    table: Table<Growing>,
+}
+
+impl Model for PartBuilder {
+    ghost use Rattle.std.specs.Prelude.{List};
+    ghost use Rattle.fd_kinds.specs.declared.row.Numbered.{Numbered};
+    ghost use Rattle.fd_column.specs.Tables.{rows_of_table, IsGrowing};
+
+    ghost Value = { List Numbered };
+
+    ghost view = { λ b. rows_of_table b.table };
+
+    ghost invariant = { λ b. IsGrowing b.table };
+}
+
+impl PartBuilder {
+    /// No rows, which take no memory.
+    pub fn new(alloc: Global) -> PartBuilder
+        ensures { result ≡ [] }
+    {
+        PartBuilder {
+            table: new_table(alloc),
+        }
+    }
+
+    /// The rows and one more. A frame of 2^32 bytes or more wants memory.
+    pub fn with_row(self, row: &Numbered) -> Result<PartBuilder, NoMemory>
+        requires { row.now.number < 2 ^ 63 }
+        ensures { IfOk result (λ builder. builder ≡ self ++ row.now ∷ []) }
+    {
+        let PartBuilder { mut table } = self;
+        push_row(&mut table, row)?;
+        Ok(PartBuilder { table })
+    }
+
+    /// The part of these rows, which are in order.
+    pub fn finish(self) -> Result<ColumnPart, NoMemory>
+        requires { IsSorted numbered_cmp self }
+        ensures { IfOk result (λ part. part ≡ self) }
+    {
+        let PartBuilder { table } = self;
+        ColumnPart::of(finished_table(table)?)
+    }
+}

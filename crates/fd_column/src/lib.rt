@@ -1,0 +1,26 @@
+//! Numbered rows by columns: one column for each fixed field, and one for each label name that
+//! occurs.
+#![tactic(auto)]
+
+mod body;
+mod builder;
+mod cells;
+mod columns;
+mod dictionary;
+mod grow;
+mod growing;
+mod label_columns;
+mod labelled;
+mod names;
+mod part;
+mod pieces;
+mod read;
+mod stacks;
+mod table;
+#[cfg(test)]
+mod tests;
+
+pub use builder::PartBuilder;
+pub use columns::Columns;
+pub use dictionary::Dictionary;
+pub use part::ColumnPart;

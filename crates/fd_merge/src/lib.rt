@@ -1,0 +1,11 @@
+//! Two parts as one: all numbered rows of both in their order.
+#![tactic(auto)]
+
+mod cursor;
+mod merging;
+mod order;
+mod side;
+#[cfg(test)]
+mod tests;
+
+pub use merging::merge;

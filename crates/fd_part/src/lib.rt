@@ -1,0 +1,13 @@
+//! Parts of a store: one batch by columns.
+//!
+//! A fresh part takes the rows of a batch out of their list and puts them in columns once, with
+//! the number 0, and sums their bytes once. Its number stands beside them, so that sharing a part,
+//! giving it its number and reading its columns copies no rows.
+#![tactic(auto)]
+
+mod columned;
+mod part;
+#[cfg(test)]
+mod tests;
+
+pub use part::Part;

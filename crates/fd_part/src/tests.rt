@@ -1,0 +1,66 @@
+use crate::Part;
+use fd_column::Columns;
+use fd_kinds::{Batch, Held, Items, Labels, NoMemory, Pair, Row, Stack, Text};
+use std::alloc::Global;
+use std::test::Fail;
+
+fn labels(alloc: Global, region: &str) -> Result<Labels, NoMemory> {
+    let mut pairs = Items::new(alloc);
+    pairs.push(Pair {
+        name: Text::of(alloc, "region")?,
+        value: Text::of(alloc, region)?,
+    })?;
+    Labels::from_pairs(pairs)
+}
+
+fn row(alloc: Global, region: &str) -> Result<Row, NoMemory> {
+    Ok(Row {
+        name: Text::of(alloc, "cpu")?,
+        sample_type: Text::of(alloc, "samples")?,
+        sample_unit: Text::of(alloc, "count")?,
+        period_type: Text::of(alloc, "cpu")?,
+        period_unit: Text::of(alloc, "nanoseconds")?,
+        labels: labels(alloc, region)?,
+        timestamp: 1,
+        stack: Stack::new(alloc),
+        pprof_labels: Labels::from_pairs(Items::new(alloc))?,
+        period: 1,
+        duration: 0,
+        value: 5,
+    })
+}
+
+fn batch(alloc: Global) -> Result<Batch, NoMemory> {
+    let mut rows = Items::new(alloc);
+    rows.push(row(alloc, "us")?)?;
+    rows.push(row(alloc, "eu")?)?;
+    Batch::of(rows)
+}
+
+/// The bytes of one row.
+const ROW: u64 = 5 * 4 + 3 + 7 + 5 + 3 + 11 + 4 + (4 + 6) + (4 + 2) + 4 + 4 + 32;
+
+#[test]
+fn a_numbered_part_is_shared(rt: HostRuntime) -> Result<(), Fail> {
+    let alloc = rt.alloc();
+    let mut part = Part::fresh(batch(alloc)?)?;
+    assert_eq!(rt; (part.lo(), part.hi()), (0, 0));
+    part.number(9);
+    let copy = part.share()?;
+    assert_eq!(rt; (copy.lo(), copy.hi()), (9, 9));
+    assert_eq!(rt; (copy.rows(), copy.bytes()), (2, 2 * ROW));
+    assert!(rt; !copy.sealed() && copy.file().is_none());
+    Ok(())
+}
+
+#[test]
+fn rows_stand_in_columns_with_their_number(rt: HostRuntime) -> Result<(), Fail> {
+    let alloc = rt.alloc();
+    let mut part = Part::fresh(batch(alloc)?)?;
+    part.number(9);
+    let columns = part.columns()?;
+    assert_eq!(rt; (columns.len(), columns.names().len()), (2, 12));
+    assert_eq!(rt; columns.row(1)?.number, 9);
+    assert_eq!(rt; part.cells().len(), 2);
+    Ok(())
+}

@@ -1,0 +1,157 @@
+ghost use Rattle.std.specs.Prelude.{◌≡◌, ◌<◌, true, length, IfOk};
+ghost use Rattle.std.specs.Option.{option_copied};
+ghost use Rattle.fd_kinds.specs.LabelMaps.{value_of};
+ghost use Rattle.fd_column.specs.Cells.{column_texts, is_text_column};
+ghost use Rattle.fd_scan.specs.Places.{row_at, text_of, has_text};
+
+use fd_column::{Columns, Dictionary};
+use fd_kinds::{Labels, NoMemory, Stack, Text};
+use std::alloc::Global;
+use std::str;
+
+/// The places of the columns that each table has.
+pub const NAME: usize = 1;
+
+pub const SAMPLE_TYPE: usize = 2;
+
+pub const SAMPLE_UNIT: usize = 3;
+
+pub const PERIOD_TYPE: usize = 4;
+
+pub const PERIOD_UNIT: usize = 5;
+
+pub const STACK: usize = 7;
+
+const TIMESTAMP: usize = 6;
+
+const DURATION: usize = 9;
+
+const VALUE: usize = 10;
+
+/// The cells of a column of texts.
+pub fn text_column<C: Columns>(columns: &C, column: usize) -> &Dictionary
+    requires { is_text_column (C.rows columns.now) column ≡ true }
+    ensures { result.now ≡ column_texts (C.rows columns.now) column }
+{
+    match columns.dictionary(column) {
+        Some(cells) => cells,
+        None => unreachable!(),
+    }
+}
+
+/// A copy of the text.
+pub fn text_from(alloc: Global, bytes: &[u8]) -> Result<Text, NoMemory>
+    ensures { IfOk result (λ text. text ≡ bytes.now) }
+{
+    match str::from_utf8(bytes) {
+        Ok(text) => Text::of(alloc, text),
+        Err(_) => Err(NoMemory),
+    }
+}
+
+/// A copy of the text of a cell, the empty one where it is absent.
+fn cell_text(alloc: Global, cells: &Dictionary, at: usize) -> Result<Text, NoMemory>
+    ensures { IfOk result (λ text. text ≡ text_of cells.now at) }
+{
+    match cells.cell(at) {
+        Some(bytes) => text_from(alloc, bytes),
+        None => Ok(Text::new(alloc)),
+    }
+}
+
+/// A copy of the text of a row in a column, the empty one where it is absent.
+pub fn text_at<C: Columns>(
+    alloc: Global,
+    columns: &C,
+    column: usize,
+    at: usize,
+) -> Result<Text, NoMemory>
+    requires { is_text_column (C.rows columns.now) column ≡ true }
+    ensures { IfOk result (λ text. text ≡ text_of (column_texts (C.rows columns.now) column) at) }
+{
+    cell_text(alloc, text_column(columns, column), at)
+}
+
+/// A copy of a row's name.
+#[tactic(auto, using(crate::proofs::CellsRead::name_read))]
+pub fn name_at<C: Columns>(alloc: Global, columns: &C, at: usize) -> Result<Text, NoMemory>
+    ensures { IfOk result (λ text. text ≡ (row_at (C.rows columns.now) at).name) }
+{
+    text_at(alloc, columns, NAME, at)
+}
+
+/// Whether a cell has the text; an absent one has the empty text.
+#[tactic(auto, using(crate::proofs::EntryLaws::empty_text))]
+pub fn has_cell(cells: &Dictionary, at: usize, text: &Text) -> bool
+    ensures { result ≡ has_text cells.now text.now at }
+{
+    match cells.cell(at) {
+        Some(bytes) => bytes == text.as_bytes(),
+        None => text.is_empty(),
+    }
+}
+
+/// The labels of a row's series.
+#[tactic(auto, using(crate::proofs::CellsRead::labels_read))]
+pub fn labels_at<C: Columns>(columns: &C, at: usize) -> Result<Labels, NoMemory>
+    requires { at < length (C.rows columns.now) }
+    ensures { IfOk result (λ labels. labels ≡ (row_at (C.rows columns.now) at).labels) }
+{
+    columns.labels(at)
+}
+
+/// The stack of a row.
+#[tactic(auto, using(crate::proofs::CellsRead::stack_read))]
+pub fn stack_at<C: Columns>(columns: &C, at: usize) -> Result<Stack, NoMemory>
+    requires { at < length (C.rows columns.now) }
+    ensures { IfOk result (λ stack. stack ≡ (row_at (C.rows columns.now) at).stack) }
+{
+    columns.stack(at)
+}
+
+/// The value of the row's label of this name, where there is one.
+#[tactic(auto, using(crate::proofs::CellsRead::label_cell_read, crate::proofs::CellsRead::no_label))]
+pub fn label_value_at<'a, C: Columns>(columns: &'a C, name: &Text, at: usize) -> Option<&'a [u8]>
+    ensures { option_copied result ≡ value_of (row_at (C.rows columns.now) at).labels.pairs name.now }
+{
+    match columns.label_column(name) {
+        Some(column) => text_column(columns, column).cell(at),
+        None => None,
+    }
+}
+
+/// The timestamp of a row, in milliseconds since the Unix epoch.
+#[tactic(auto, using(crate::proofs::CellsRead::timestamp_read, crate::proofs::CellsRead::fixed_inside))]
+pub fn timestamp_at<C: Columns>(columns: &C, at: usize) -> i64
+    requires { at < length (C.rows columns.now) }
+    ensures { result ≡ (row_at (C.rows columns.now) at).timestamp }
+{
+    match columns.whole(TIMESTAMP, at) {
+        Some(timestamp) => timestamp,
+        None => 0,
+    }
+}
+
+/// The duration of a row, in nanoseconds.
+#[tactic(auto, using(crate::proofs::CellsRead::duration_read, crate::proofs::CellsRead::fixed_inside))]
+pub fn duration_at<C: Columns>(columns: &C, at: usize) -> i64
+    requires { at < length (C.rows columns.now) }
+    ensures { result ≡ (row_at (C.rows columns.now) at).duration }
+{
+    match columns.whole(DURATION, at) {
+        Some(duration) => duration,
+        None => 0,
+    }
+}
+
+/// The value of a row.
+#[tactic(auto, using(crate::proofs::CellsRead::value_read, crate::proofs::CellsRead::fixed_inside))]
+pub fn value_at<C: Columns>(columns: &C, at: usize) -> i64
+    requires { at < length (C.rows columns.now) }
+    ensures { result ≡ (row_at (C.rows columns.now) at).value }
+{
+    match columns.whole(VALUE, at) {
+        Some(value) => value,
+        None => 0,
+    }
+}
