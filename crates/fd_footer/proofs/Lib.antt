@@ -1,0 +1,13 @@
+pub mod Digits
+pub mod Injective
+pub mod Kept
+pub mod Legal
+pub mod Loops
+pub mod Placed
+pub mod Shaped
+pub mod Short
+pub mod Three
+pub mod Told
+pub mod Utf8
+pub mod Values
+pub mod Whole

@@ -1,0 +1,28 @@
+use fd_kinds::{Bytes, Items};
+
+/// What the cells of a column are: the physical types INT64 and BYTE_ARRAY of Apache Parquet.
+#[derive(Clone, Copy, Debug, PartialEq, Eq)]
+pub enum CellKind {
+    Whole,
+    Bytes,
+}
+
+/// The value of one row in a column.
+#[derive(Debug, Drop)]
+pub enum Cell {
+    /// No value, which only an optional column has.
+    Absent,
+    Whole(i64),
+    Bytes(Bytes),
+}
+
+/// Cells, one a row, in the order of the rows.
+pub type CellList = Items<Cell>;
+
+/// The cells of a column. Where it is required, none is absent.
+#[derive(Debug, Drop)]
+pub struct Cells {
+    pub kind: CellKind,
+    pub required: bool,
+    pub cells: CellList,
+}
