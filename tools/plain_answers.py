@@ -19,25 +19,19 @@ import sys
 import urllib.parse
 
 ROOT = pathlib.Path(__file__).resolve().parent.parent
+sys.path.insert(0, str(ROOT / 'bench'))
+import linear  # noqa: E402
+from linear import held  # noqa: E402
+
 LEAST, MOST = -(1 << 63), (1 << 63) - 1
 
 
 def varint(n):
-    n &= (1 << 64) - 1
-    out = bytearray()
-    while n > 127:
-        out.append(n % 128 + 128)
-        n //= 128
-    out.append(n)
-    return bytes(out)
+    return linear.varint(n & (1 << 64) - 1)
 
 
 def number(field, n):
-    return varint(field * 8) + varint(n)
-
-
-def held(field, data):
-    return varint(field * 8 + 2) + varint(len(data)) + data
+    return linear.number(field, n & (1 << 64) - 1)
 
 
 class Profile:
