@@ -16,6 +16,7 @@ use Rattle.fd_kinds.specs.RowOrder.{row_cmp}
 use Rattle.fd_column.specs.Cells.{Column, number, name, sample_type, sample_unit, period_type, period_unit, timestamp, stack, period, duration, value, label, pprof_label, fixed_columns, columns_of, column_texts, meeting, cell_at, text_in, whole_in, names_in, series_pairs, pprof_pairs}
 use Rattle.fd_column.specs.Numbering.{numbered_cmp, IsNumber, renumber, renumbered, IsGiven}
 use Rattle.fd_column.specs.Stacks.{AreShort}
+use Rattle.fd_column.specs.Texts.{HasTexts, AreTexts}
 use Rattle.fd_column.proofs.CellLaws.{no_whole_behind}
 
 -- rows that are given no number keep their own
@@ -169,6 +170,10 @@ numbers_kept g rows shown e given all =
 pub short_kept : (g : Option ℕ) (rows shown : List Numbered) → renumbered g rows ≡ shown → All (λ n. AreShort n.row.stack) rows → All (λ n. AreShort n.row.stack) shown
 short_kept g rows shown e all =
     subst (λ rs. All (λ n. AreShort n.row.stack) rs) e (All-map (λ n. AreShort n.row.stack) (renumber g) rows all)
+
+pub utf8_kept : (g : Option ℕ) (rows shown : List Numbered) → renumbered g rows ≡ shown → AreTexts rows → AreTexts shown
+utf8_kept g rows shown e all =
+    subst AreTexts e (All-map (λ n. HasTexts n.row) (renumber g) rows all)
 
 pub unlabelled_kept : (l : List ℕ) (g : Option ℕ) (rows shown : List Numbered) → renumbered g rows ≡ shown → All (λ n. value_of n.row.labels.pairs l ≡ None) rows → All (λ n. value_of n.row.labels.pairs l ≡ None) shown
 unlabelled_kept l g rows shown e all =

@@ -15,6 +15,7 @@ use Rattle.fd_column.specs.Stacks.{stack_bytes, frames_of, AreShort}
 use Rattle.fd_column.specs.Cells.{series_pairs, pprof_pairs}
 use Rattle.fd_column.specs.Labelled.{label_columns, with_value, add_columns, pairs_at}
 use Rattle.fd_column.specs.Numbering.{IsNumber}
+use Rattle.fd_column.specs.Texts.{HasTexts}
 use Rattle.fd_column.specs.Tables.{IsTableOf, GrowsBy, AreHeld, IsGrowing, text_at, number_in, number_at, row_at, rows_of_table}
 use Rattle.fd_column.proofs.LabelGrowth.{labels_grow}
 use Rattle.fd_column.proofs.LabelsBack.{pairs_of_row, labels_from_is}
@@ -114,12 +115,13 @@ rows_back t rows is held =
     count = ap length is.numbers ∙ length-map rows (λ n. n.number)
 
 pub nothing_held : AreHeld []
-nothing_held = record { numbers = All-nil IsNumber; frames = All-nil (λ n. AreShort n.row.stack) }
+nothing_held = record { numbers = All-nil IsNumber; frames = All-nil (λ n. AreShort n.row.stack); texts = All-nil (λ n. HasTexts n.row) }
 
-pub held_more : (rows : List Numbered) (n : Numbered) → AreHeld rows → n.number < 2 ^ 63 → AreShort n.row.stack → AreHeld (rows ++ n ∷ [])
-held_more rows n held number short = record {
+pub held_more : (rows : List Numbered) (n : Numbered) → AreHeld rows → n.number < 2 ^ 63 → AreShort n.row.stack → HasTexts n.row → AreHeld (rows ++ n ∷ [])
+held_more rows n held number short texts = record {
   numbers = All-push IsNumber rows n held.numbers number;
   frames = All-push (λ n. AreShort n.row.stack) rows n held.frames short;
+  texts = All-push (λ n. HasTexts n.row) rows n held.texts texts;
 }
 
 -- a table of rows that can be held

@@ -5,3 +5,4 @@ pub mod Numbering
 pub mod Pieces
 pub mod Stacks
 pub mod Tables
+pub mod Texts

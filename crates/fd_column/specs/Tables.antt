@@ -11,6 +11,7 @@ use Rattle.fd_column.specs.Stacks.{stack_bytes, frames_of, AreShort}
 use Rattle.fd_column.specs.Cells.{series_pairs, pprof_pairs, column_names}
 use Rattle.fd_column.specs.Labelled.{label_columns, add_columns, with_value, pairs_at, labels_from}
 use Rattle.fd_column.specs.Numbering.{numbered_cmp, IsNumber}
+use Rattle.fd_column.specs.Texts.{AreTexts}
 
 pub record AreKindsOf (k : Kinds Cells) (rows : List Numbered) : Type 0 where
   pub name : k.name ≡ map (λ n. Some n.row.name) rows
@@ -89,10 +90,11 @@ pub record GrowsBy (n : Numbered) (old new : Table Cells) : Type 0 where
 unfoldable pub rows_of_table : Table Cells → List Numbered
 rows_of_table t = map (row_at t) (range_with_len 0 (length t.numbers))
 
--- what each list of rows that columns hold has: numbers of 63 bits, and frames whose lengths have four bytes
+-- what each list of rows that columns hold has: numbers of 63 bits, frames whose lengths have four bytes, and texts in UTF-8
 pub record AreHeld (rows : List Numbered) : Type 0 where
   pub numbers : All IsNumber rows
   pub frames : All (λ n. AreShort n.row.stack) rows
+  pub texts : AreTexts rows
 
 pub record IsGrowing (t : Table Cells) : Type 0 where
   pub table : IsTableOf t (rows_of_table t)

@@ -8,6 +8,7 @@ use crate::dictionary::Dictionary;
 use crate::names::names_of;
 use crate::read::{labels_of_table, row_of, stack_of_table};
 use crate::table::Table;
+use crate::texts::texts_are_utf8;
 use fd_kinds::{Labels, NoMemory, Numbered, Stack, Text, Texts};
 use std::alloc::Global;
 use std::marker::Model;
@@ -106,5 +107,9 @@ impl Columns for Body {
 
     fn short(&self) {
         let _ = &self.table;
+    }
+
+    fn utf8(&self) {
+        texts_are_utf8(self.names.as_slice());
     }
 }

@@ -6,6 +6,7 @@ use crate::grow::{finished_table, new_table, push_row};
 use crate::growing::Growing;
 use crate::part::ColumnPart;
 use crate::table::Table;
+use crate::texts::row_is_utf8;
 use fd_kinds::{NoMemory, Numbered};
 use std::alloc::Global;
 use std::marker::Model;
@@ -45,6 +46,7 @@ impl PartBuilder {
         ensures { IfOk result (λ builder. builder ≡ self ++ row.now ∷ []) }
     {
         let PartBuilder { mut table } = self;
+        row_is_utf8(&row.row);
         push_row(&mut table, row)?;
         Ok(PartBuilder { table })
     }

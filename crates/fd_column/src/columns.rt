@@ -1,9 +1,10 @@
-ghost use Rattle.std.specs.Prelude.{◌≡◌, ◌<◌, List, Some, None, IfOk, IfSome, All, is_some, length, slice_get, option_map};
+ghost use Rattle.std.specs.Prelude.{◌≡◌, ◌<◌, List, Some, None, IfOk, IfSome, All, IsUtf8, is_some, length, slice_get, option_map};
 ghost use Rattle.std.specs.Option.{option_copied};
 ghost use Rattle.fd_kinds.specs.declared.row.Numbered.{Numbered};
 ghost use Rattle.fd_kinds.specs.LabelMaps.{value_of};
 ghost use Rattle.fd_column.specs.Cells.{Column, label, columns_of, column_names, column_texts, is_text_column, cell_at, text_in, whole_in};
 ghost use Rattle.fd_column.specs.Stacks.{AreShort};
+ghost use Rattle.fd_column.specs.Texts.{AreTexts};
 
 use crate::dictionary::Dictionary;
 use fd_kinds::{Labels, NoMemory, Stack, Text, Texts};
@@ -58,4 +59,9 @@ pub trait Columns {
     /// The length of each frame has four bytes, so no two stacks have the same cell.
     fn short(&self)
         ensures { All (λ row. AreShort row.row.stack) (rows self.now) };
+
+    /// The texts of the rows and the names of the columns are UTF-8.
+    fn utf8(&self)
+        ensures texts { AreTexts (rows self.now) }
+        ensures names { All IsUtf8 (column_names (rows self.now)) };
 }

@@ -19,6 +19,7 @@ mod stacks;
 mod table;
 #[cfg(test)]
 mod tests;
+mod texts;
 
 pub use builder::PartBuilder;
 pub use columns::Columns;

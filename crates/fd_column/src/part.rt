@@ -152,4 +152,8 @@ impl Columns for ColumnPart {
     fn short(&self) {
         self.body.short();
     }
+
+    fn utf8(&self) {
+        self.body.utf8();
+    }
 }

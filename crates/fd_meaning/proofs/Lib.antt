@@ -1,4 +1,3 @@
-pub mod Distinct
 pub mod Meanings
 pub mod Orders
 pub mod Shuffled

@@ -18,7 +18,7 @@ use Rattle.std.proofs.lemmas.Map.Made.{is_some-lookup}
 use Rattle.fd_kinds.specs.declared.row.Row.{Row}
 use Rattle.fd_kinds.specs.Meaning.{distinct}
 use Rattle.fd_scan.specs.Grouped.{IsGrouped}
-use Rattle.fd_scan.proofs.Distinct.{sorted_distinct, any_distinct}
+use Rattle.fd_kinds.proofs.Distinct.{sorted_distinct, any_distinct}
 
 filter_none : {A : Type 0} (p : A → Bool) (xs : List A) → list_any p xs ≡ false → filter p xs ≡ []
 filter_none p [] e = refl

@@ -35,7 +35,7 @@ short_at [] at h s = absurd (omega arith)
 short_at (n ∷ ns) zero h s = All-head (λ n. AreShort n.row.stack) n ns s
 short_at (n ∷ ns) (suc at) h s = short_at ns at (omega arith) (All-tail (λ n. AreShort n.row.stack) n ns s)
 
-same_entry : (es : List (List ℕ)) (a b : List ℕ) (entry : ℕ) (p q : Option ℕ) → pick_in es a ≡ p → pick_in es b ≡ q → option_map (λ pick. pick - 1) p ≡ Some entry → option_map (λ pick. pick - 1) q ≡ Some entry → a ≡ b
+pub same_entry : (es : List (List ℕ)) (a b : List ℕ) (entry : ℕ) (p q : Option ℕ) → pick_in es a ≡ p → pick_in es b ≡ q → option_map (λ pick. pick - 1) p ≡ Some entry → option_map (λ pick. pick - 1) q ≡ Some entry → a ≡ b
 same_entry es a b entry None q ha hb ea eb = absurd (cc)
 same_entry es a b entry (Some p) None ha hb ea eb = absurd (cc)
 same_entry es a b entry (Some p) (Some q) ha hb ea eb =

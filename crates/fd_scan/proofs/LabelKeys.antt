@@ -24,7 +24,7 @@ second_tied Less p e = cc
 second_tied Equal p e = e
 second_tied Greater p e = cc
 
-same_text : IsAntisymmetric text_cmp
+pub same_text : IsAntisymmetric text_cmp
 same_text = slice_cmp-IsAntisymmetric nat_cmp-IsAntisymmetric
 
 same_pair : IsAntisymmetric pair_cmp

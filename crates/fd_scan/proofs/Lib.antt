@@ -1,5 +1,4 @@
 pub mod CellsRead
-pub mod Distinct
 pub mod EntryLaws
 pub mod Gathering
 pub mod Grouped
@@ -7,11 +6,14 @@ pub mod Keeping
 pub mod Knowing
 pub mod LabelKeys
 pub mod Looked
+pub mod Occurred
 pub mod Outcomes
 pub mod Ranged
 pub mod Recently
 pub mod Scanned
+pub mod Seeing
 pub mod Slotted
 pub mod Summed
 pub mod TypeCells
 pub mod Undoing
+pub mod Valued

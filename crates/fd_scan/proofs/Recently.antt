@@ -16,7 +16,7 @@ use Rattle.std.specs.List.{list_any}
 use Rattle.std.specs.BTreeMap.{is_at}
 use Rattle.std.specs.BTreeSet.{insert_key}
 use Rattle.fd_scan.specs.Recents.{AreDistinct}
-use Rattle.fd_scan.proofs.Distinct.{distinct_push, distinct_present}
+use Rattle.fd_kinds.proofs.Distinct.{distinct_push, distinct_present}
 
 module _ {T : Type 0} {R : T → T → Ordering} (o : IsTotalOrder R) where
   -- an item that was inserted is the last

@@ -7,7 +7,7 @@ use Rattle.std.specs.BTreeSet.{insert_key}
 use Rattle.std.specs.Set.{remove_key}
 use Rattle.fd_kinds.specs.Pairs.{text_cmp}
 use Rattle.fd_scan.specs.Undone.{undone}
-use Rattle.fd_scan.proofs.Distinct.{remove_inserted, remove_absent}
+use Rattle.fd_kinds.proofs.Distinct.{remove_inserted, remove_absent}
 
 -- the last that was noted is taken out first
 pub undone_last : (keys texts : List (List ℕ)) (text : List ℕ) → undone keys (texts ++ text ∷ []) ≡ undone (remove_key (is_at (text_cmp text)) keys) texts

@@ -2,6 +2,8 @@ pub mod Adding
 pub mod Gathers
 pub mod Grouped
 pub mod Known
+pub mod Occurring
 pub mod Places
 pub mod Recents
+pub mod Seen
 pub mod Undone

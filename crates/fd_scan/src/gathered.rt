@@ -8,6 +8,7 @@ ghost use Rattle.fd_scan.specs.Gathers.{AreGathered, AreGroups, counted};
 
 use crate::counting::counts;
 use crate::names::{LabelValues, add_names, add_names_at};
+use crate::occurring::add_names_of;
 use crate::places::counted_places;
 use crate::ranges::{Ranges, add_to_range, add_to_range_at, listed_ranges};
 use crate::recent::Recent;
@@ -134,6 +135,8 @@ impl Groups {
             → AreGroups query (rows ++ rows_at (C.rows columns.now) (take k places.now)) self.new)) }
     {
         match self {
+            Groups::Names(names) => add_names_of(alloc, names, columns, places),
+            Groups::Values(values) => values.add_places(alloc, columns, places),
             Groups::Merge(sums) => add_sums(alloc, sums, columns, places),
             _ => self.add_each(alloc, columns, places),
         }

@@ -1,12 +1,13 @@
-ghost use Rattle.std.specs.Prelude.{◌≡◌, ◌<◌, length, ℕ, List, [], ◌∷◌, ◌++◌, map, OnOk, OnErr};
+ghost use Rattle.std.specs.Prelude.{◌≡◌, ◌<◌, length, ℕ, List, [], ◌∷◌, ◌++◌, map, take, OnOk, OnErr};
 ghost use Rattle.fd_kinds.specs.declared.row.Row.{Row};
 ghost use Rattle.fd_kinds.specs.Meaning.{distinct, label_names, label_values};
 ghost use Rattle.fd_kinds.specs.Pairs.{text_cmp};
-ghost use Rattle.fd_scan.specs.Places.{row_at};
+ghost use Rattle.fd_scan.specs.Places.{row_at, rows_at};
 ghost use Rattle.fd_scan.specs.Undone.{undone};
 
-use crate::cells::{label_value_at, labels_at, text_from};
+use crate::cells::{label_value_at, labels_at, text_column, text_from};
 use crate::matching::label_value;
+use crate::seen::add_texts_at;
 use crate::sets::add_copy;
 use fd_column::Columns;
 use fd_kinds::{Items, Labels, NoMemory, Pair, Row, Share, Text, Texts};
@@ -14,7 +15,7 @@ use std::alloc::Global;
 use std::collections::BTreeSet;
 
 /// Takes out the last text that was noted, and those before it.
-fn take_out(texts: &mut BTreeSet<Text>, mut noted: Texts)
+pub fn take_out(texts: &mut BTreeSet<Text>, mut noted: Texts)
     ensures { texts.new.keys ≡ undone texts.old.keys noted }
 {
     while let Some(text) = noted.pop() {
@@ -24,7 +25,7 @@ fn take_out(texts: &mut BTreeSet<Text>, mut noted: Texts)
 
 /// Adds a copy of the text, where the set does not have it, and notes that. After a refusal the text
 /// may be noted alone.
-fn add_noted(texts: &mut BTreeSet<Text>, noted: &mut Texts, text: &Text) -> Result<(), NoMemory>
+pub fn add_noted(texts: &mut BTreeSet<Text>, noted: &mut Texts, text: &Text) -> Result<(), NoMemory>
     ensures ok { OnOk result (
         (items : List (List ℕ)) → texts.old.keys ≡ distinct text_cmp items
         → texts.new.keys ≡ distinct text_cmp (items ++ text.now ∷ [])) }
@@ -122,6 +123,31 @@ impl LabelValues {
     {
         match label_value_at(columns, &self.name, at) {
             Some(bytes) => add_copy(&mut self.found, &text_from(alloc, bytes)?),
+            None => Ok(()),
+        }
+    }
+
+    /// Adds the values of the name that the rows at the places have; after a refusal those of a
+    /// first part of them.
+    pub fn add_places<C: Columns>(
+        &mut self,
+        alloc: Global,
+        columns: &C,
+        places: &[usize],
+    ) -> Result<(), NoMemory>
+        ensures name { self.new.name ≡ self.old.name }
+        ensures ok { OnOk result (
+            (rows : List Row) → self.old.found.keys ≡ label_values self.old.name rows
+            → self.new.found.keys ≡ label_values self.old.name (rows ++ rows_at (C.rows columns.now) places.now)) }
+        ensures err { OnErr result (
+            (k : ℕ) × ((rows : List Row) → self.old.found.keys ≡ label_values self.old.name rows
+            → self.new.found.keys ≡ label_values self.old.name (rows ++ rows_at (C.rows columns.now) (take k places.now)))) }
+    {
+        match columns.label_column(&self.name) {
+            Some(column) => {
+                let cells = text_column(columns, column);
+                add_texts_at(alloc, &mut self.found, cells, places)
+            }
             None => Ok(()),
         }
     }

@@ -74,8 +74,5 @@ pub fn add_series_at<C: Columns>(
         (rows : List Row) → AreDistinct series_cmp series.old.found.keys series.old.last (map series_of rows)
         → AreDistinct series_cmp series.new.found.keys series.new.last (map series_of rows)) }
 {
-    series.add(
-        series_at(alloc, columns, at)?,
-        series_at(alloc, columns, at)?,
-    )
+    series.add_alone(series_at(alloc, columns, at)?)
 }

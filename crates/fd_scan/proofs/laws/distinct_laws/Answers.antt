@@ -1,4 +1,4 @@
-use Rattle.fd_scan.proofs.Distinct.{sorted_distinct, contains_distinct}
+use Rattle.fd_kinds.proofs.Distinct.{sorted_distinct, contains_distinct}
 use Rattle.fd_scan.proofs.laws.distinct_laws.Goals as goal
 
 pub returns-clause-rising : goal.returns-clause-rising

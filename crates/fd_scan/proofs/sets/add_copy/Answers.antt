@@ -1,7 +1,7 @@
 use Rattle.std.proofs.Common.{sym, ◌∙◌, ap}
 use Rattle.std.specs.Ordering.{eq_by_cmp}
 use Rattle.std.specs.List.{list_any}
-use Rattle.fd_scan.proofs.Distinct.{distinct_present}
+use Rattle.fd_kinds.proofs.Distinct.{distinct_present}
 use Rattle.fd_scan.proofs.sets.add_copy.Goals as goal
 
 pub returns-else-not-contains-clause-ok : goal.returns-else-not-contains-clause-ok

@@ -7,7 +7,7 @@ table : (c : goal.In_ok-push_row) → IsTableOf c.push_row.new.table (rows_of_ta
 table c = table_grows c.self.inside.table c.push_row.new.table (rows_of_table c.self.inside.table) c.args.row.now c.self.invariant.table c.in_ok-push_row.ensures.grows
 
 held : (c : goal.In_ok-push_row) → AreHeld (rows_of_table c.self.inside.table ++ c.args.row.now ∷ [])
-held c = held_more (rows_of_table c.self.inside.table) c.args.row.now c.self.invariant.held c.requires c.in_ok-push_row.ensures.short
+held c = held_more (rows_of_table c.self.inside.table) c.args.row.now c.self.invariant.held c.requires c.in_ok-push_row.ensures.short c.row_is_utf8.ensures
 
 pub invariant_of-result : goal.invariant_of-result
 invariant_of-result c = growing_from c.push_row.new.table _ (table c) (held c)

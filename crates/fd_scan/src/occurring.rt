@@ -1,0 +1,143 @@
+ghost use Rattle.std.specs.Prelude.{◌≡◌, ◌++◌, List, ℕ, is_some, OnOk, OnErr};
+ghost use Rattle.std.specs.Option.{option_copied};
+ghost use Rattle.fd_kinds.specs.declared.row.Row.{Row};
+ghost use Rattle.fd_kinds.specs.Meaning.{distinct, label_names};
+ghost use Rattle.fd_kinds.specs.Pairs.{text_cmp};
+ghost use Rattle.fd_column.specs.Dictionaries.{cell_in};
+ghost use Rattle.fd_scan.specs.Occurring.{any_cell, column_label, column_labels, label_of, occurs, where_occurs};
+ghost use Rattle.fd_scan.specs.Places.{rows_at};
+ghost use Rattle.fd_scan.specs.Undone.{undone};
+
+use crate::cells::{text_column, text_from};
+use crate::names::{add_noted, take_out};
+use fd_column::{Columns, Dictionary};
+use fd_kinds::{Items, NoMemory, Text, Texts};
+use std::alloc::Global;
+use std::collections::BTreeSet;
+
+/// The label of which a column has the values, by the column's name.
+fn label_of(column: &[u8]) -> Option<&[u8]>
+    ensures { option_copied result ≡ label_of column.now }
+{
+    column.strip_prefix(b"labels.")
+}
+
+/// Whether a cell is there.
+fn is_there(cells: &Dictionary, at: usize) -> bool
+    ensures { result ≡ is_some (cell_in cells.now at) }
+{
+    cells.cell(at).is_some()
+}
+
+/// Whether one of the cells at the places is there.
+fn any_cell(cells: &Dictionary, places: &[usize]) -> bool
+    ensures { result ≡ any_cell cells.now places.now }
+{
+    for at in places {
+        if is_there(cells, *at) {
+            return true;
+        }
+    }
+    false
+}
+
+/// Whether one of the rows at the places has the label.
+fn occurs<C: Columns>(columns: &C, places: &[usize], name: &Text) -> bool
+    ensures { result ≡ occurs (C.rows columns.now) places.now name.now }
+{
+    match columns.label_column(name) {
+        Some(column) => {
+            let cells = text_column(columns, column);
+            any_cell(cells, places)
+        }
+        None => false,
+    }
+}
+
+/// Adds the name, where one of the rows at the places has the label.
+fn add_where_occurs<C: Columns>(
+    names: &mut BTreeSet<Text>,
+    noted: &mut Texts,
+    columns: &C,
+    places: &[usize],
+    name: &Text,
+) -> Result<(), NoMemory>
+    ensures ok { OnOk result (
+        (items : List (List ℕ)) → names.old.keys ≡ distinct text_cmp items
+        → names.new.keys ≡ distinct text_cmp (items ++ where_occurs (C.rows columns.now) places.now name.now)) }
+    ensures undone { undone names.new.keys noted.new ≡ undone names.old.keys noted.old }
+{
+    if names.contains(name) {
+        return Ok(());
+    }
+    if occurs(columns, places, name) {
+        return add_noted(names, noted, name);
+    }
+    Ok(())
+}
+
+/// Adds the label of a column, where one of the rows at the places has it.
+fn add_column_label<C: Columns>(
+    names: &mut BTreeSet<Text>,
+    noted: &mut Texts,
+    columns: &C,
+    places: &[usize],
+    column: &Text,
+) -> Result<(), NoMemory>
+    ensures ok { OnOk result (
+        (items : List (List ℕ)) → names.old.keys ≡ distinct text_cmp items
+        → names.new.keys ≡ distinct text_cmp (items ++ column_label (C.rows columns.now) places.now column.now)) }
+    ensures undone { undone names.new.keys noted.new ≡ undone names.old.keys noted.old }
+{
+    match label_of(column.as_bytes()) {
+        Some(bytes) => {
+            let name = text_from(noted.allocator(), bytes)?;
+            add_where_occurs(names, noted, columns, places, &name)
+        }
+        None => Ok(()),
+    }
+}
+
+/// Adds the labels of the columns that rows at the places have, and notes those that are new.
+fn add_column_labels<C: Columns>(
+    names: &mut BTreeSet<Text>,
+    noted: &mut Texts,
+    columns: &C,
+    places: &[usize],
+    texts: &[Text],
+) -> Result<(), NoMemory>
+    ensures ok { OnOk result (
+        (items : List (List ℕ)) → names.old.keys ≡ distinct text_cmp items
+        → names.new.keys ≡ distinct text_cmp (items ++ column_labels (C.rows columns.now) places.now texts.now)) }
+    ensures undone { undone names.new.keys noted.new ≡ undone names.old.keys noted.old }
+{
+    for column in texts {
+        add_column_label(names, noted, columns, places, column)?;
+    }
+    Ok(())
+}
+
+/// Adds the names of the labels of the rows at the places: all of them, or none where memory is
+/// wanting. Of a column of labels no more cells are read than to the first that is there, and none
+/// where the set has the name.
+pub fn add_names_of<C: Columns>(
+    alloc: Global,
+    names: &mut BTreeSet<Text>,
+    columns: &C,
+    places: &[usize],
+) -> Result<(), NoMemory>
+    ensures ok { OnOk result (
+        (rows : List Row) → names.old.keys ≡ label_names rows
+        → names.new.keys ≡ label_names (rows ++ rows_at (C.rows columns.now) places.now)) }
+    ensures err { OnErr result (names.new.keys ≡ names.old.keys) }
+{
+    let mut noted = Items::new(alloc);
+    let texts = columns.names().as_slice();
+    match add_column_labels(names, &mut noted, columns, places, texts) {
+        Ok(()) => Ok(()),
+        Err(refusal) => {
+            take_out(names, noted);
+            Err(refusal)
+        }
+    }
+}
