@@ -2,7 +2,10 @@
 """Compares the answers of the program with those of a plain list of rows.
 
 usage: tools/plain_answers.py [PROGRAM [ROUNDS [SEED]]]
+       tools/plain_answers.py --stored [--write]
     PROGRAM: default crates/frostd/out/frostd, made by `rt run`; ROUNDS: default 40; SEED: default 1
+    --stored says whether the stored run of crates/query_cases is one of these sessions with the replies
+    that the list of rows gives, and with --write makes it
 
 Each round makes a session of some writes of made profiles (several sample types, stacks and samples,
 label sets that differ, empty label values, profiles with and without a duration, values of both signs
@@ -204,10 +207,10 @@ def reply_of(answer):
     return b'HTTP/1.1 200 OK\r\nContent-Type: application/json\r\nContent-Length: %d\r\n\r\n' % len(body) + body
 
 
-def session_of(rng):
+def session_of(rng, writes):
     """The requests, and the bytes of their replies."""
     requests, replies, rows, written = [], [], [], 0
-    for _ in range(rng.randint(1, 25)):
+    for _ in range(writes):
         request, more = write_of(rng)
         rows += more
         written += 1
@@ -220,13 +223,28 @@ def session_of(rng):
     return requests, replies
 
 
+def stored(write):
+    """Whether the stored run is that of this session, which has more writes than one compaction takes."""
+    requests, replies = session_of(random.Random(7), 40)
+    same = True
+    for name, wanted in (('stdin', b''.join(requests)), ('stdout', b''.join(replies))):
+        path = ROOT / 'crates/query_cases' / name
+        if write:
+            path.write_bytes(wanted)
+        same = same and path.read_bytes() == wanted
+    print(f'{len(requests)} requests:', 'the stored run' if same else 'the stored run is another')
+    return 0 if same else 1
+
+
 def main():
+    if sys.argv[1:2] == ['--stored']:
+        return stored(sys.argv[2:] == ['--write'])
     program = sys.argv[1] if len(sys.argv) > 1 else str(ROOT / 'crates/frostd/out/frostd')
     rounds = int(sys.argv[2]) if len(sys.argv) > 2 else 40
     rng = random.Random(int(sys.argv[3]) if len(sys.argv) > 3 else 1)
     compared = 0
     for at in range(rounds):
-        requests, replies = session_of(rng)
+        requests, replies = session_of(rng, rng.randint(1, 25))
         done = subprocess.run([program, 'session'], input=b''.join(requests), stdout=subprocess.PIPE)
         rest = done.stdout
         for request, reply in zip(requests, replies):

@@ -8,6 +8,7 @@ use crate::checks::checked;
 use crate::gathered::Gathered;
 use crate::measured::Measured;
 use crate::profiles::with_messages;
+use crate::sorted::sorted;
 use fd_kinds::{Batch, Items, RawBody, RawSeries};
 use std::alloc::Global;
 
@@ -50,6 +51,6 @@ pub fn batch(alloc: Global, body: &RawBody) -> Result<Batch, BatchFault>
     for (i, series) in body.series.as_slice().iter().enumerate() {
         rows = with_series(alloc, rows, i as u64, series)?;
     }
-    let batch = Batch::of(rows.rows)?;
+    let batch = sorted(rows.rows)?;
     Ok(batch)
 }

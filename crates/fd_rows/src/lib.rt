@@ -10,6 +10,7 @@ mod profiles;
 mod rows;
 mod series;
 mod sizes;
+mod sorted;
 #[cfg(test)]
 mod tests;
 
