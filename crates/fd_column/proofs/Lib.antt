@@ -1,4 +1,5 @@
 pub mod CellLaws
+pub mod CellsAlike
 pub mod DictionaryLaws
 pub mod DictionaryOf
 pub mod DictionaryPushes

@@ -64,7 +64,7 @@ text_back f cells rows at n is there =
 pub whole_back : {X : Type 0} (f : Numbered → X) (xs : List X) (rows : List Numbered) (at : ℕ) (n : Numbered) → xs ≡ map f rows → slice_get rows at ≡ Some n → slice_get xs at ≡ Some (f n)
 whole_back f xs rows at n is there = ap (λ xs. slice_get xs at) is ∙ slice_get-map f rows at ∙ ap (option_map f) there
 
-labels_back : (pairs_of : Numbered → List Pair) (rows : List Numbered) (at : ℕ) (n : Numbered) → slice_get rows at ≡ Some n → slice_get (map pairs_of rows) at ≡ Some (pairs_of n)
+pub labels_back : (pairs_of : Numbered → List Pair) (rows : List Numbered) (at : ℕ) (n : Numbered) → slice_get rows at ≡ Some n → slice_get (map pairs_of rows) at ≡ Some (pairs_of n)
 labels_back pairs_of rows at n there = slice_get-map pairs_of rows at ∙ ap (option_map pairs_of) there
 
 pub row_labels : (t : Table Cells) (rows : List Numbered) (at : ℕ) (n : Numbered) → IsTableOf t rows → slice_get rows at ≡ Some n → pairs_at t.labels at ≡ n.row.labels.pairs

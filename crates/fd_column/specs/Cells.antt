@@ -1,6 +1,7 @@
 -- The table of numbered rows: for each concrete column its optional values.
-use Rattle.std.specs.Prelude.{ℕ, ℤ, Bool, true, false, pos, List, [], ◌∷◌, ◌++◌, map, flat_map, slice_get, Option, Some, None, codes}
+use Rattle.std.specs.Prelude.{ℕ, ℤ, Bool, true, false, pos, List, [], ◌∷◌, ◌++◌, map, flat_map, slice_get, Option, Some, None, option_map, codes}
 use Rattle.fd_kinds.specs.declared.kinds.Pair.{Pair}
+use Rattle.fd_kinds.specs.declared.labels.Labels.{Labels}
 use Rattle.fd_kinds.specs.declared.row.Numbered.{Numbered}
 use Rattle.fd_kinds.specs.LabelMaps.{value_of}
 use Rattle.fd_kinds.specs.Meaning.{distinct}
@@ -118,3 +119,7 @@ is_text_column rows column = has_texts (slice_get (columns_of rows) column)
 -- the texts of a column, one for each row
 abbrev pub column_texts : List Numbered → ℕ → List (Option (List ℕ))
 column_texts rows column = map (λ row. text_in (meeting (slice_get (columns_of rows) column) (Some row))) rows
+
+-- the labels of the series of the row at a place, none where there is no row
+abbrev pub labels_in : List Numbered → ℕ → Option Labels
+labels_in rows at = option_map (λ row. row.row.labels) (slice_get rows at)

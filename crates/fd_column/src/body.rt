@@ -5,6 +5,7 @@ ghost use Rattle.fd_column.specs.Numbering.{numbered_cmp, IsNumber};
 use crate::cells::{dictionary_of_table, label_column_of_table, text_of_table, whole_of_table};
 use crate::columns::Columns;
 use crate::dictionary::Dictionary;
+use crate::label_columns::have_same_cells;
 use crate::names::names_of;
 use crate::read::{labels_of_table, row_of, stack_of_table};
 use crate::table::Table;
@@ -99,6 +100,10 @@ impl Columns for Body {
 
     fn labels(&self, at: usize) -> Result<Labels, NoMemory> {
         labels_of_table(&self.table, at)
+    }
+
+    fn same_labels(&self, a: usize, b: usize) -> bool {
+        have_same_cells(self.table.labels.as_slice(), a, b)
     }
 
     fn stack(&self, at: usize) -> Result<Stack, NoMemory> {

@@ -1,8 +1,8 @@
-ghost use Rattle.std.specs.Prelude.{◌≡◌, ◌<◌, List, Some, None, IfOk, IfSome, All, IsUtf8, is_some, length, slice_get, option_map};
+ghost use Rattle.std.specs.Prelude.{◌≡◌, ◌<◌, List, Some, None, IfOk, IfSome, All, IsUtf8, Decides, is_some, length, slice_get, option_map};
 ghost use Rattle.std.specs.Option.{option_copied};
 ghost use Rattle.fd_kinds.specs.declared.row.Numbered.{Numbered};
 ghost use Rattle.fd_kinds.specs.LabelMaps.{value_of};
-ghost use Rattle.fd_column.specs.Cells.{Column, label, columns_of, column_names, column_texts, is_text_column, cell_at, text_in, whole_in};
+ghost use Rattle.fd_column.specs.Cells.{Column, label, columns_of, column_names, column_texts, is_text_column, cell_at, text_in, whole_in, labels_in};
 ghost use Rattle.fd_column.specs.Stacks.{AreShort};
 ghost use Rattle.fd_column.specs.Texts.{AreTexts};
 
@@ -50,6 +50,12 @@ pub trait Columns {
     fn labels(&self, at: usize) -> Result<Labels, NoMemory>
         requires { at < length (rows self.now) }
         ensures { IfOk result (λ labels. option_map (λ row. row.row.labels) (slice_get (rows self.now) at) ≡ Some labels) };
+
+    /// Whether the series of two rows have the same labels, of which no text is read.
+    fn same_labels(&self, a: usize, b: usize) -> bool
+        requires first { a < length (rows self.now) }
+        requires second { b < length (rows self.now) }
+        ensures { Decides result (labels_in (rows self.now) a ≡ labels_in (rows self.now) b) };
 
     /// The stack of a row.
     fn stack(&self, at: usize) -> Result<Stack, NoMemory>

@@ -1,4 +1,4 @@
-ghost use Rattle.std.specs.Prelude.{◌≡◌, length, slice_get};
+ghost use Rattle.std.specs.Prelude.{◌≡◌, Decides, length, slice_get, unwrap_or};
 ghost use Rattle.std.specs.Option.{option_copied};
 ghost use Rattle.fd_column.specs.Dictionaries.{cells_of, cell_in, entries_of, index_in, IsDictionary};
 
@@ -22,6 +22,16 @@ impl Model for Dictionary {
     ghost view = { λ d. cells_of d.texts d.picks };
 
     ghost invariant = { λ d. IsDictionary d.texts d.picks };
+}
+
+/// What stands for a cell, and 0 where there is none.
+fn pick_at(picks: &[u32], at: usize) -> u32
+    ensures { result ≡ unwrap_or (slice_get picks.now at) 0 }
+{
+    match picks.get(at) {
+        Some(pick) => *pick,
+        None => 0,
+    }
 }
 
 impl Dictionary {
@@ -77,5 +87,13 @@ impl Dictionary {
         } else {
             Some(pick as usize - 1)
         }
+    }
+
+    #[tactic(auto, using(crate::proofs::CellsAlike::same_picks))]
+    /// Whether two cells are the same: both with one text, or both absent.
+    pub fn is_same(&self, a: usize, b: usize) -> bool
+        ensures { Decides result (cell_in self.now a ≡ cell_in self.now b) }
+    {
+        pick_at(self.picks.as_slice(), a) == pick_at(self.picks.as_slice(), b)
     }
 }

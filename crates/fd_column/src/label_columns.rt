@@ -1,8 +1,9 @@
-ghost use Rattle.std.specs.Prelude.{◌≡◌, ◌<◌, ◌≤◌, ℕ, MatchOption, IfOk, length, map, insert, IsTrue, [], ◌∷◌, ◌++◌};
+ghost use Rattle.std.specs.Prelude.{◌≡◌, ◌<◌, ◌≤◌, ℕ, MatchOption, IfOk, All, Decides, length, map, insert, IsTrue, [], ◌∷◌, ◌++◌};
 ghost use Rattle.std.specs.Option.{option_copied};
 ghost use Rattle.std.specs.List.{filter_map};
 ghost use Rattle.fd_kinds.specs.Labels.{are_labels};
 ghost use Rattle.fd_kinds.specs.LabelMaps.{value_of};
+ghost use Rattle.fd_column.specs.Dictionaries.{cell_in};
 ghost use Rattle.fd_column.specs.Labelled.{add_column, add_columns, blank, with_value, pair_at, pairs_at, labels_from};
 
 use crate::dictionary::Dictionary;
@@ -148,4 +149,16 @@ pub fn labels_at(
         pairs = with_pair(pairs, column, at)?;
     }
     Ok(Labels { pairs })
+}
+
+/// Whether each column has the same cell at two places.
+pub fn have_same_cells(columns: &[Labelled<Dictionary>], a: usize, b: usize) -> bool
+    ensures { Decides result (All (λ c. cell_in c.cells a ≡ cell_in c.cells b) columns.now) }
+{
+    for column in columns {
+        if !column.cells.is_same(a, b) {
+            return false;
+        }
+    }
+    true
 }

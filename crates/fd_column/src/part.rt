@@ -145,6 +145,10 @@ impl Columns for ColumnPart {
         self.body.labels(at)
     }
 
+    fn same_labels(&self, a: usize, b: usize) -> bool {
+        self.body.same_labels(a, b)
+    }
+
     fn stack(&self, at: usize) -> Result<Stack, NoMemory> {
         self.body.stack(at)
     }
