@@ -1,13 +1,14 @@
 -- What the cells of columns say of the row at a place.
-use Rattle.std.proofs.Common.{◌≡◌, ℕ, ℤ, zero, suc, ◌<◌, List, [], ◌∷◌, map, length, slice_get, refl, sym, ◌∙◌, ap, arith}
-use Rattle.std.specs.Prelude.{Option, Some, None, option_map, unwrap_or, All}
+use Rattle.std.proofs.Common.{◌≡◌, Bool, true, ℕ, ℤ, zero, suc, ◌<◌, List, [], ◌∷◌, map, length, slice_get, refl, sym, ◌∙◌, ap, arith}
+use Rattle.std.specs.Prelude.{Option, Some, None, option_map, unwrap_or, All, Decides}
 use Rattle.std.proofs.lemmas.List.Elements.{All-head, All-tail}
+use Rattle.std.proofs.lemmas.Option.{same_Some}
 use Rattle.fd_kinds.specs.declared.row.Row.{Row}
 use Rattle.fd_kinds.specs.declared.row.Numbered.{Numbered}
 use Rattle.fd_kinds.specs.declared.labels.Labels.{Labels}
 use Rattle.fd_kinds.specs.LabelMaps.{value_of}
 use Rattle.fd_column.specs.Dictionaries.{cell_in}
-use Rattle.fd_column.specs.Cells.{label, label_cell, columns_of, column_names, column_texts, cell_at, meeting, text_in, whole_in}
+use Rattle.fd_column.specs.Cells.{label, label_cell, columns_of, column_names, column_texts, cell_at, meeting, text_in, whole_in, labels_in}
 use Rattle.fd_scan.specs.Places.{row_at, empty_row, text_of}
 
 -- ---- the row at a place
@@ -121,3 +122,18 @@ labels_read rows at read within found = whole_value rows at (λ row. row.labels)
 
 pub stack_read : (rows : List Numbered) (at : ℕ) (read : List (List ℕ)) → at < length rows → option_map (λ n. n.row.stack) (slice_get rows at) ≡ Some read → read ≡ (row_at rows at).stack
 stack_read rows at read within found = whole_value rows at (λ row. row.stack) read within found
+
+-- ---- rows with the same cells
+
+labels_there : (rows : List Numbered) (at : ℕ) → at < length rows → labels_in rows at ≡ Some (row_at rows at).labels
+labels_there rows at within =
+    let there = row_there rows at within in
+    ap (option_map (λ n. n.row.labels)) there.1 ∙ ap (λ r. Some r.labels) (sym there.2)
+
+pub same_labels : (rows : List Numbered) (a b : ℕ) (r : Bool) → a < length rows → b < length rows → Decides r (labels_in rows a ≡ labels_in rows b) → r ≡ true → (row_at rows a).labels ≡ (row_at rows b).labels
+same_labels rows a b r ha hb decides is =
+    same_Some (row_at rows a).labels (row_at rows b).labels (sym (labels_there rows a ha) ∙ decides.0 is ∙ labels_there rows b hb)
+
+pub same_name : (rows : List Numbered) (a b : ℕ) (r : Bool) → Decides r (cell_in (column_texts rows 1) a ≡ cell_in (column_texts rows 1) b) → r ≡ true → (row_at rows a).name ≡ (row_at rows b).name
+same_name rows a b r decides is =
+    sym (name_read rows a) ∙ ap (λ o. unwrap_or o []) (decides.0 is) ∙ name_read rows b

@@ -10,6 +10,7 @@ pub mod Occurred
 pub mod Outcomes
 pub mod Ranged
 pub mod Recently
+pub mod RowsAt
 pub mod Scanned
 pub mod Seeing
 pub mod Slotted

@@ -1,5 +1,5 @@
 -- Distinct items and the last of them, as items are added.
-use Rattle.std.proofs.Common.{rules, ◌≡◌, true, bytes_eq, List, [], ◌∷◌, ◌++◌, map, sym, ◌∙◌, ap, subst, Some}
+use Rattle.std.proofs.Common.{rules, ◌≡◌, true, bytes_eq, List, [], ◌∷◌, ◌++◌, map, sym, ◌∙◌, ap, subst, Some, None}
 use Rattle.std.specs.Prelude.{Option, IfSome}
 use Rattle.std.specs.declared.cmp.Ordering.{Ordering}
 use Rattle.std.specs.declared.cmp.Ordering.TheVariants.{Equal}
@@ -36,6 +36,10 @@ module _ {T : Type 0} {R : T → T → Ordering} (o : IsTotalOrder R) where
         held = before.held ∙ distinct_present o items item (ap (list_any (is_at (R item))) (sym before.held) ∙ there);
         among = before.among;
       }
+
+-- the same items, whichever was the last
+pub distinct_alone : {T : Type 0} {R : T → T → Ordering} {found items : List T} (last : Option T) → AreDistinct R found last items → AreDistinct R found None items
+distinct_alone last before = record { held = before.held; among = tt }
 
 -- the items of rows, with that of one more row
 pub rows_more : {T : Type 0} {R : T → T → Ordering} (f : Row → T) (found : List T) (last : Option T) (rows : List Row) (row : Row) (item : T) → item ≡ f row → AreDistinct R found last (map f rows ++ item ∷ []) → AreDistinct R found last (map f (rows ++ row ∷ []))

@@ -2,6 +2,7 @@ pub mod Adding
 pub mod Gathers
 pub mod Grouped
 pub mod Known
+pub mod Labelled
 pub mod Occurring
 pub mod Places
 pub mod Recents

@@ -1,6 +1,4 @@
 ghost use Rattle.std.specs.Prelude.{◌≡◌, ◌<◌, true, length, IfOk};
-ghost use Rattle.std.specs.Option.{option_copied};
-ghost use Rattle.fd_kinds.specs.LabelMaps.{value_of};
 ghost use Rattle.fd_column.specs.Cells.{column_texts, is_text_column};
 ghost use Rattle.fd_scan.specs.Places.{row_at, text_of, has_text};
 
@@ -100,6 +98,24 @@ pub fn labels_at<C: Columns>(columns: &C, at: usize) -> Result<Labels, NoMemory>
     columns.labels(at)
 }
 
+/// Whether the series of two rows have the same labels.
+#[tactic(auto, using(crate::proofs::CellsRead::same_labels))]
+pub fn has_same_labels<C: Columns>(columns: &C, a: usize, b: usize) -> bool
+    requires first { a < length (C.rows columns.now) }
+    requires second { b < length (C.rows columns.now) }
+    ensures { result ≡ true → (row_at (C.rows columns.now) a).labels ≡ (row_at (C.rows columns.now) b).labels }
+{
+    columns.same_labels(a, b)
+}
+
+/// Whether two rows have the same name.
+#[tactic(auto, using(crate::proofs::CellsRead::same_name))]
+pub fn has_same_name<C: Columns>(columns: &C, a: usize, b: usize) -> bool
+    ensures { result ≡ true → (row_at (C.rows columns.now) a).name ≡ (row_at (C.rows columns.now) b).name }
+{
+    text_column(columns, NAME).is_same(a, b)
+}
+
 /// The stack of a row.
 #[tactic(auto, using(crate::proofs::CellsRead::stack_read))]
 pub fn stack_at<C: Columns>(columns: &C, at: usize) -> Result<Stack, NoMemory>
@@ -107,17 +123,6 @@ pub fn stack_at<C: Columns>(columns: &C, at: usize) -> Result<Stack, NoMemory>
     ensures { IfOk result (λ stack. stack ≡ (row_at (C.rows columns.now) at).stack) }
 {
     columns.stack(at)
-}
-
-/// The value of the row's label of this name, where there is one.
-#[tactic(auto, using(crate::proofs::CellsRead::label_cell_read, crate::proofs::CellsRead::no_label))]
-pub fn label_value_at<'a, C: Columns>(columns: &'a C, name: &Text, at: usize) -> Option<&'a [u8]>
-    ensures { option_copied result ≡ value_of (row_at (C.rows columns.now) at).labels.pairs name.now }
-{
-    match columns.label_column(name) {
-        Some(column) => text_column(columns, column).cell(at),
-        None => None,
-    }
 }
 
 /// The timestamp of a row, in milliseconds since the Unix epoch.

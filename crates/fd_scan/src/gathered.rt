@@ -3,20 +3,20 @@ ghost use Rattle.fd_kinds.specs.declared.row.Row.{Row};
 ghost use Rattle.fd_kinds.specs.declared.query.Query.{Query};
 ghost use Rattle.fd_kinds.specs.Meaning.{meaning};
 ghost use Rattle.fd_kinds.specs.Parts.{rows_of};
-ghost use Rattle.fd_scan.specs.Places.{row_at, rows_at};
+ghost use Rattle.fd_scan.specs.Places.{rows_at};
 ghost use Rattle.fd_scan.specs.Gathers.{AreGathered, AreGroups, counted};
 
 use crate::counting::counts;
-use crate::names::{LabelValues, add_names, add_names_at};
+use crate::names::{LabelValues, add_names};
 use crate::occurring::add_names_of;
 use crate::places::counted_places;
-use crate::ranges::{Ranges, add_to_range, add_to_range_at, listed_ranges};
+use crate::ranges::{Ranges, add_ranges_at, add_to_range, listed_ranges};
 use crate::recent::Recent;
 use crate::series::{add_series, add_series_at};
 use crate::sets::listed;
 use crate::summing::add_sums;
 use crate::sums::Sums;
-use crate::types::{add_type, add_type_at};
+use crate::types::{add_type, add_types_at};
 use fd_column::Columns;
 use fd_kinds::{Answer, NoMemory, ProfileType, Query, Row, SeriesName, Share, Text};
 use std::alloc::Global;
@@ -78,47 +78,6 @@ impl Groups {
         }
     }
 
-    /// Adds the row at a place, which counts for the query, or nothing where memory is wanting.
-    fn add_at<C: Columns>(&mut self, alloc: Global, columns: &C, at: usize) -> Result<(), NoMemory>
-        requires { at < length (C.rows columns.now) }
-        ensures ok { OnOk result (
-            (query : Query) → (rows : List Row) → AreGroups query rows self.old
-            → AreGroups query (rows ++ row_at (C.rows columns.now) at ∷ []) self.new) }
-        ensures err { OnErr result (
-            (query : Query) → (rows : List Row) → AreGroups query rows self.old → AreGroups query rows self.new) }
-    {
-        match self {
-            Groups::Types(types) => add_type_at(alloc, types, columns, at),
-            Groups::Names(names) => add_names_at(names, columns, at),
-            Groups::Values(values) => values.add_at(alloc, columns, at),
-            Groups::Series(series) => add_series_at(alloc, series, columns, at),
-            Groups::Range(ranges) => add_to_range_at(alloc, ranges, columns, at),
-            Groups::Merge(sums) => sums.add_at(columns, at),
-        }
-    }
-
-    /// Adds the rows at the places, which count for the query, one by one; after a refusal a first
-    /// part of them.
-    fn add_each<C: Columns>(
-        &mut self,
-        alloc: Global,
-        columns: &C,
-        places: &[usize],
-    ) -> Result<(), NoMemory>
-        requires { All (λ at. at < length (C.rows columns.now)) places.now }
-        ensures ok { OnOk result (
-            (query : Query) → (rows : List Row) → AreGroups query rows self.old
-            → AreGroups query (rows ++ rows_at (C.rows columns.now) places.now) self.new) }
-        ensures err { OnErr result (
-            (k : ℕ) × ((query : Query) → (rows : List Row) → AreGroups query rows self.old
-            → AreGroups query (rows ++ rows_at (C.rows columns.now) (take k places.now)) self.new)) }
-    {
-        for at in places {
-            self.add_at(alloc, columns, *at)?;
-        }
-        Ok(())
-    }
-
     /// Adds the rows at the places, which count for the query; after a refusal a first part of them.
     fn add_places<C: Columns>(
         &mut self,
@@ -135,10 +94,12 @@ impl Groups {
             → AreGroups query (rows ++ rows_at (C.rows columns.now) (take k places.now)) self.new)) }
     {
         match self {
+            Groups::Types(types) => add_types_at(alloc, types, columns, places),
             Groups::Names(names) => add_names_of(alloc, names, columns, places),
             Groups::Values(values) => values.add_places(alloc, columns, places),
+            Groups::Series(series) => add_series_at(alloc, series, columns, places),
+            Groups::Range(ranges) => add_ranges_at(alloc, ranges, columns, places),
             Groups::Merge(sums) => add_sums(alloc, sums, columns, places),
-            _ => self.add_each(alloc, columns, places),
         }
     }
 

@@ -1,11 +1,11 @@
-ghost use Rattle.std.specs.Prelude.{◌≡◌, ◌<◌, length, ℕ, List, [], ◌∷◌, ◌++◌, map, take, OnOk, OnErr};
+ghost use Rattle.std.specs.Prelude.{◌≡◌, ℕ, List, [], ◌∷◌, ◌++◌, map, take, OnOk, OnErr};
 ghost use Rattle.fd_kinds.specs.declared.row.Row.{Row};
 ghost use Rattle.fd_kinds.specs.Meaning.{distinct, label_names, label_values};
 ghost use Rattle.fd_kinds.specs.Pairs.{text_cmp};
-ghost use Rattle.fd_scan.specs.Places.{row_at, rows_at};
+ghost use Rattle.fd_scan.specs.Places.{rows_at};
 ghost use Rattle.fd_scan.specs.Undone.{undone};
 
-use crate::cells::{label_value_at, labels_at, text_column, text_from};
+use crate::cells::text_column;
 use crate::matching::label_value;
 use crate::seen::add_texts_at;
 use crate::sets::add_copy;
@@ -70,22 +70,6 @@ pub fn add_names(names: &mut BTreeSet<Text>, labels: &Labels) -> Result<(), NoMe
     added
 }
 
-/// Adds the names of the labels of the row at a place: all of them, or none where memory is wanting.
-pub fn add_names_at<C: Columns>(
-    names: &mut BTreeSet<Text>,
-    columns: &C,
-    at: usize,
-) -> Result<(), NoMemory>
-    requires { at < length (C.rows columns.now) }
-    ensures ok { OnOk result (
-        (rows : List Row) → names.old.keys ≡ label_names rows
-        → names.new.keys ≡ label_names (rows ++ row_at (C.rows columns.now) at ∷ [])) }
-    ensures err { OnErr result (names.new.keys ≡ names.old.keys) }
-{
-    let labels = labels_at(columns, at)?;
-    add_names(names, &labels)
-}
-
 /// The distinct values of the label of one name.
 #[derive(Drop)]
 pub struct LabelValues {
@@ -104,25 +88,6 @@ impl LabelValues {
     {
         match label_value(&row.labels, &self.name) {
             Some(value) => add_copy(&mut self.found, value),
-            None => Ok(()),
-        }
-    }
-
-    /// Adds the value of the name that the row at a place has, where it has one.
-    pub fn add_at<C: Columns>(
-        &mut self,
-        alloc: Global,
-        columns: &C,
-        at: usize,
-    ) -> Result<(), NoMemory>
-        ensures name { self.new.name ≡ self.old.name }
-        ensures ok { OnOk result (
-            (rows : List Row) → self.old.found.keys ≡ label_values self.old.name rows
-            → self.new.found.keys ≡ label_values self.old.name (rows ++ row_at (C.rows columns.now) at ∷ [])) }
-        ensures err { OnErr result (self.new.found.keys ≡ self.old.found.keys) }
-    {
-        match label_value_at(columns, &self.name, at) {
-            Some(bytes) => add_copy(&mut self.found, &text_from(alloc, bytes)?),
             None => Ok(()),
         }
     }

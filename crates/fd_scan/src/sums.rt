@@ -3,13 +3,10 @@ ghost use Rattle.std.specs.BTreeMap.{get, IsOrdered};
 ghost use Rattle.std.specs.Ordering.{is_eq};
 ghost use Rattle.fd_kinds.specs.declared.row.Row.{Row};
 ghost use Rattle.fd_kinds.specs.Meaning.{stack_sums, value_sum};
-ghost use Rattle.fd_scan.specs.Places.{row_at};
 ghost use Rattle.fd_scan.specs.Grouped.{AreSums, AreStackSums, KeepsSlots};
 ghost use Rattle.fd_scan.specs.Adding.{AddsWhereFound};
 ghost use Rattle.fd_kinds.specs.Meaning.{stack_cmp};
 
-use crate::cells::{stack_at, value_at};
-use fd_column::Columns;
 use fd_kinds::{Items, NoMemory, Row, Share, Stack, StackSum, StackSums};
 use std::alloc::Global;
 use std::collections::BTreeMap;
@@ -162,21 +159,6 @@ impl Sums {
             → AreSums self.new.slots self.new.sums.items self.new.total rows) }
     {
         self.add(&row.stack, row.value)?;
-        Ok(())
-    }
-
-    /// Adds the value of the row at a place.
-    pub fn add_at<C: Columns>(&mut self, columns: &C, at: usize) -> Result<(), NoMemory>
-        requires { at < length (C.rows columns.now) }
-        ensures ok { OnOk result (
-            (rows : List Row) → AreSums self.old.slots self.old.sums.items self.old.total rows
-            → AreSums self.new.slots self.new.sums.items self.new.total (rows ++ row_at (C.rows columns.now) at ∷ [])) }
-        ensures err { OnErr result (
-            (rows : List Row) → AreSums self.old.slots self.old.sums.items self.old.total rows
-            → AreSums self.new.slots self.new.sums.items self.new.total rows) }
-    {
-        let stack = stack_at(columns, at)?;
-        self.add(&stack, value_at(columns, at))?;
         Ok(())
     }
 

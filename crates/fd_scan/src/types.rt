@@ -1,9 +1,9 @@
-ghost use Rattle.std.specs.Prelude.{◌≡◌, ◌<◌, ◌&&◌, not, pos, true, length, List, [], ◌∷◌, ◌++◌, map, OnOk, OnErr, IfOk, Some};
+ghost use Rattle.std.specs.Prelude.{◌≡◌, ◌<◌, ◌&&◌, ℕ, not, pos, true, length, take, List, [], ◌∷◌, ◌++◌, map, All, OnOk, OnErr, IfOk, Some};
 ghost use Rattle.fd_kinds.specs.declared.row.Row.{Row};
 ghost use Rattle.fd_kinds.specs.Meaning.{type_of, type_cmp, is_of_type};
 ghost use Rattle.std.specs.Ordering.{int_eq};
 ghost use Rattle.fd_column.specs.Cells.{column_texts};
-ghost use Rattle.fd_scan.specs.Places.{row_at, has_text, has_texts};
+ghost use Rattle.fd_scan.specs.Places.{row_at, rows_at, has_text, has_texts};
 ghost use Rattle.fd_scan.specs.Recents.{AreDistinct};
 
 use crate::cells::{
@@ -127,7 +127,7 @@ fn is_last_at<C: Columns>(types: &Recent<ProfileType>, columns: &C, at: usize) -
 }
 
 /// Adds the profile type of the row at a place.
-pub fn add_type_at<C: Columns>(
+fn add_type_at<C: Columns>(
     alloc: Global,
     types: &mut Recent<ProfileType>,
     columns: &C,
@@ -145,4 +145,25 @@ pub fn add_type_at<C: Columns>(
         return Ok(());
     }
     types.add(type_at(alloc, columns, at)?, type_at(alloc, columns, at)?)
+}
+
+/// Adds the profile types of the rows at the places; after a refusal those of a first part of them.
+pub fn add_types_at<C: Columns>(
+    alloc: Global,
+    types: &mut Recent<ProfileType>,
+    columns: &C,
+    places: &[usize],
+) -> Result<(), NoMemory>
+    requires { All (λ at. at < length (C.rows columns.now)) places.now }
+    ensures ok { OnOk result (
+        (rows : List Row) → AreDistinct type_cmp types.old.found.keys types.old.last (map type_of rows)
+        → AreDistinct type_cmp types.new.found.keys types.new.last (map type_of (rows ++ rows_at (C.rows columns.now) places.now))) }
+    ensures err { OnErr result (
+        (k : ℕ) × ((rows : List Row) → AreDistinct type_cmp types.old.found.keys types.old.last (map type_of rows)
+        → AreDistinct type_cmp types.new.found.keys types.new.last (map type_of (rows ++ rows_at (C.rows columns.now) (take k places.now))))) }
+{
+    for at in places {
+        add_type_at(alloc, types, columns, *at)?;
+    }
+    Ok(())
 }

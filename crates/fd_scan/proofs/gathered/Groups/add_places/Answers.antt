@@ -2,7 +2,7 @@ use Rattle.std.proofs.Common.{subst, ◌++◌, take}
 use Rattle.std.proofs.lemmas.Result.{on_ok_weaker, on_err_weaker}
 use Rattle.fd_scan.specs.Gathers.{AreGroups}
 use Rattle.fd_scan.specs.Places.{rows_at}
-use Rattle.fd_scan.proofs.Gathering.{names_step, names_kept, sums_step, values_step}
+use Rattle.fd_scan.proofs.Gathering.{names_step, names_kept, ranges_step, sums_step, values_step}
 use Rattle.fd_scan.proofs.gathered.Groups.add_places.Goals as goal
 
 pub returns-in-Merge-clause-ok : goal.returns-in-Merge-clause-ok
@@ -40,3 +40,15 @@ returns-in-Names-clause-err g c =
     on_err_weaker c.add_names_of.result
     (λ same. (0, λ query rows held. names_kept c.in-Names.names c.add_names_of.new.names same query rows (subst (AreGroups query rows) c.in-Names.is held)))
     c.add_names_of.ensures.err
+
+pub returns-in-Range-clause-ok : goal.returns-in-Range-clause-ok
+returns-in-Range-clause-ok g c =
+    on_ok_weaker c.add_ranges_at.result
+    (λ step query rows held. ranges_step (λ l. l ++ rows_at (g.C.Columns.rows c.args.columns.now) c.args.places.now) c.in-Range.ranges c.add_ranges_at.new.ranges step query rows (subst (AreGroups query rows) c.in-Range.is held))
+    c.add_ranges_at.ensures.ok
+
+pub returns-in-Range-clause-err : goal.returns-in-Range-clause-err
+returns-in-Range-clause-err g c =
+    on_err_weaker c.add_ranges_at.result
+    (λ (k, step). (k, λ query rows held. ranges_step (λ l. l ++ rows_at (g.C.Columns.rows c.args.columns.now) (take k c.args.places.now)) c.in-Range.ranges c.add_ranges_at.new.ranges step query rows (subst (AreGroups query rows) c.in-Range.is held)))
+    c.add_ranges_at.ensures.err
