@@ -1,5 +1,5 @@
 -- The values of a label of the rows at places are the texts of the label's column there.
-use Rattle.std.proofs.Common.{◌≡◌, ℕ, List, [], ◌∷◌, ◌++◌, map, refl, sym, ◌∙◌, ap, append-nil, Some, None}
+use Rattle.std.proofs.Common.{◌≡◌, ℕ, List, [], ◌∷◌, ◌++◌, refl, sym, ◌∙◌, ap, append-nil, Some, None}
 use Rattle.std.specs.Prelude.{slice_get, flat_map, All}
 use Rattle.std.specs.Option.{option_to_list}
 use Rattle.std.proofs.lemmas.Grind.{flat_map-append}
@@ -10,7 +10,7 @@ use Rattle.fd_kinds.specs.Meaning.{distinct, values_at, label_values}
 use Rattle.fd_kinds.specs.Pairs.{text_cmp}
 use Rattle.fd_column.specs.Cells.{label, columns_of, column_texts}
 use Rattle.fd_scan.specs.Places.{row_at, rows_at}
-use Rattle.fd_scan.specs.Seen.{text_at, texts_at}
+use Rattle.fd_scan.specs.Seen.{texts_at}
 use Rattle.fd_scan.proofs.CellsRead.{label_cell_read, no_label}
 
 values_read : (rows : List Numbered) (column : ℕ) (name : List ℕ) → slice_get (columns_of rows) column ≡ Some (label name) → (places : List ℕ) → texts_at (column_texts rows column) places ≡ flat_map (values_at name) (rows_at rows places)
