@@ -1,14 +1,14 @@
 ghost use Rattle.std.specs.Prelude.{◌≡◌, ◌≢◌, ℕ, [], ◌+◌, ◌<◌, ◌≤◌, ◌^◌, false, true, if◌then◌else◌, length, map, filter, IfOk, IfErr, OnOk, OnErr};
-ghost use Rattle.std.specs.Prelude.{slice_get, IsPermutation, ◌⊎◌, ◌∷◌};
+ghost use Rattle.std.specs.Prelude.{slice_get, All, IsPermutation, ◌⊎◌, ◌∷◌};
 ghost use Rattle.fd_kinds.specs.History.{upto};
-ghost use Rattle.fd_kinds.specs.Parts.{rows_of};
+ghost use Rattle.fd_kinds.specs.Parts.{PartMeaning, IsWithin, rows_of};
 ghost use Rattle.fd_shelf.specs.Books.{Shelved, IsBook, Each, IsLoose, IsSealed, IsLight, HasSmallBatches, MOST_BATCH, blocks_of, settled_parts, all_parts, rows_in, bytes_of};
 ghost use Rattle.fd_shelf.specs.Histories.{hist, batch_at, in_row_order};
-ghost use Rattle.fd_shelf.specs.Steps.{empty_book, admitted, advanced, appended, has_next, is_full, span_of, parts_upto, level0, placed_in, is_upto, IsWholeAt};
+ghost use Rattle.fd_shelf.specs.Steps.{empty_book, admitted, advanced, appended, has_next, is_full, span_of, parts_upto, level0, loose_upto, lowest, highest, is_loose, placed_in, is_upto, IsWholeAt};
 ghost use Rattle.fd_shelf.specs.Replacing.{IsInOrder, IsChanged, HasRowsOf, HandsBack, replaced};
 
 use crate::blocks::Blocks;
-use crate::replacing::place_of_run;
+use crate::replacing::{count_loose, place_of_run};
 use crate::span::span_of;
 use crate::waiting::wait;
 use crate::{NotReplaced, Picked, Span};
@@ -158,9 +158,11 @@ impl<P: Held> Shelf<P> {
         self.mark
     }
 
-    /// The parts of a shelf are in order.
+    /// The parts of a shelf are in order, and none of its blocks holds numbers on both sides of the
+    /// mark.
     pub fn is_in_order(&self)
-        ensures { IsBook self.now.book self.now.mark }
+        ensures book { IsBook self.now.book self.now.mark }
+        ensures whole { Each (IsWholeAt self.now.mark) (settled_parts self.now.book) }
     {
         let _mark = self.mark;
     }
@@ -222,10 +224,40 @@ impl<P: Held> Shelf<P> {
     /// Shares of the parts of the active block that are not sealed and hold a number up to the
     /// limit, in order. It costs no copy of rows.
     pub fn level0(&self, limit: u64) -> Result<Picked<P>, NoMemory>
-        ensures { IfOk result (λ picked. map (λ i. placed_in i.block (P.means i.part)) picked ≡ level0 self.now.book limit) }
+        ensures placed { IfOk result (λ picked. map (λ i. placed_in i.block (P.means i.part)) picked ≡ level0 self.now.book limit) }
+        ensures parts { IfOk result (λ picked. map (λ i. P.means i.part) picked ≡ loose_upto self.now.book limit) }
     {
         let picked = self.blocks.level0(limit)?;
         Ok(picked)
+    }
+
+    /// The parts that `level0` tells follow one another behind all sealed ones, so no number stands
+    /// against one part in their place. A part of their range with their rows has the rows that all
+    /// parts have there.
+    pub fn level0_laws(&self, limit: u64)
+        ensures range { loose_upto self.now.book limit ≢ []
+            → (0 < lowest (loose_upto self.now.book limit))
+            × (lowest (loose_upto self.now.book limit) ≤ highest (loose_upto self.now.book limit))
+            × (highest (loose_upto self.now.book limit) ≤ self.now.mark) }
+        ensures free { loose_upto self.now.book limit ≢ []
+            → (n : ℕ) → IsChanged (lowest (loose_upto self.now.book limit)) (highest (loose_upto self.now.book limit)) self.now.book.active n → ⊥ }
+        ensures within { All (IsWithin (lowest (loose_upto self.now.book limit)) (highest (loose_upto self.now.book limit))) (rows_in (loose_upto self.now.book limit)) }
+        ensures light { bytes_of (rows_in (loose_upto self.now.book limit)) < 2 ^ 29 }
+        ensures rows { (part : PartMeaning)
+            → part.lo ≡ lowest (loose_upto self.now.book limit)
+            → part.hi ≡ highest (loose_upto self.now.book limit)
+            → IsPermutation (rows_in (loose_upto self.now.book limit)) part.rows
+            → HasRowsOf (all_parts self.now.book) part }
+    {
+        let _limit = limit;
+        self.is_in_order();
+    }
+
+    /// How many parts of the active block are not sealed. It goes over these alone.
+    pub fn loose(&self) -> u64
+        ensures { result ≡ length (filter is_loose self.now.book.active) }
+    {
+        count_loose(self.blocks.active())
     }
 
     /// Puts a sealed part in place of the parts that hold the numbers from `lo` to `hi` in the
