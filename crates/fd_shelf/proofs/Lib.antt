@@ -5,7 +5,9 @@ pub mod Layouts
 pub mod Listing
 pub mod Numbers
 pub mod Placing
+pub mod Ranges
 pub mod Replaced
 pub mod Runs
+pub mod Sorting
 pub mod Spans
 pub mod Spliced
