@@ -9,9 +9,9 @@ use Rattle.fd_kinds.specs.declared.row.Numbered.{Numbered}
 use Rattle.fd_kinds.specs.RowOrder.{row_cmp}
 use Rattle.fd_kinds.specs.Parts.{PartMeaning, loose_part, rows_of}
 use Rattle.fd_kinds.proofs.PartLaws.{rows_of_with_number}
-use Rattle.fd_shelf.specs.Books.{Book, IsBook, Each, Follows, settled_parts, all_parts, rows_in}
+use Rattle.fd_shelf.specs.Books.{Book, IsBook, Follows, settled_parts, all_parts, rows_in}
 use Rattle.fd_shelf.specs.Histories.{batch_at, batches_from, hist, put_row, in_row_order}
-use Rattle.fd_shelf.specs.Steps.{is_upto, IsWholeAt}
+use Rattle.fd_shelf.specs.Steps.{is_upto}
 
 follows_below : (first mark : ℕ) (parts : List PartMeaning) → Follows first parts mark → first ≤ mark + 1
 follows_below first mark [] follows = omega (arith, follows)
@@ -31,17 +31,8 @@ all_below first mark (p ∷ ps) follows =
     if_true (is_upto mark p) (p ∷ filter (is_upto mark) ps) (filter (is_upto mark) ps) (grind (arith, rest, follows.1))
     ∙ ap (λ qs. p ∷ qs) (all_below (p.hi + 1) mark ps follows.2)
 
-all_whole : (first mark : ℕ) (parts : List PartMeaning) → Follows first parts mark → Each (IsWholeAt mark) parts
-all_whole first mark [] follows = tt
-all_whole first mark (p ∷ ps) follows =
-    let rest = follows_below (p.hi + 1) mark ps follows.2 in
-    ((λ _. omega (arith, rest)), all_whole (p.hi + 1) mark ps follows.2)
-
 pub upto_mark : (book : Book) (mark : ℕ) → IsBook book mark → filter (is_upto mark) (settled_parts book) ≡ settled_parts book
 upto_mark book mark order = all_below 1 mark (settled_parts book) order.settled
-
-pub whole_at_mark : (book : Book) (mark : ℕ) → IsBook book mark → Each (IsWholeAt mark) (settled_parts book)
-whole_at_mark book mark order = all_whole 1 mark (settled_parts book) order.settled
 
 batches_push : (parts : List PartMeaning) (number count : ℕ) → batches_from parts number (suc count) ≡ batches_from parts number count ++ batch_at parts (number + count) ∷ []
 batches_push parts number zero = ap (λ n. batch_at parts n ∷ []) (omega arith)

@@ -61,7 +61,7 @@ fn drawn(shelf: &Shelf<Part>) -> u64
 }
 
 /// Shares of all parts, in order.
-#[tactic(auto, using(crate::proofs::Settled::upto_mark, crate::proofs::Settled::whole_at_mark))]
+#[tactic(auto, using(crate::proofs::Settled::upto_mark))]
 fn all_parts(shelf: &Shelf<Part>) -> Result<Picked<Part>, NoMemory>
     ensures { IfOk result (λ picked. map (λ i. part_meaning i.part) picked ≡ settled_parts shelf.now.book) }
 {
