@@ -1,5 +1,4 @@
 use Rattle.std.proofs.Common.{arith, ap, sym, ◌∙◌, ◌≡◌, length, refl}
-use Rattle.std.specs.Prelude.{flat_map}
 use Rattle.fd_kinds.specs.History.{upto}
 use Rattle.fd_kinds.specs.Meaning.{meaning}
 use Rattle.fd_kinds.specs.Parts.{rows_of}
