@@ -5,14 +5,17 @@ usage: bench/session.py [PROGRAM]     PROGRAM: default crates/frostd/out/frostd,
 
 It sends 10,000 and 50,000 requests for the status; then 100, 1,000 and 10,000 writes of one small
 profile, and queries of each kind behind them; and prints the rates, and how the time per write and
-per row of a merge grows from one size to the next. The program's start is taken off by a session
-without requests.
+per row of a merge grows from one size to the next. Last it compares a merge over 16 writes of 2,000
+rows, which are one sealed part, with one over 15, which are not sealed. The program's start is taken
+off by a session without requests.
 """
 import base64
 import pathlib
 import subprocess
 import sys
 import time
+
+import linear
 
 ROOT = pathlib.Path(__file__).resolve().parent.parent
 PROFILE = base64.b64encode(bytes.fromhex(
@@ -51,6 +54,17 @@ def seconds(program, requests):
     return min(times)
 
 
+def sealed_over_loose(program):
+    """The time per row of a merge over one sealed part, over that over parts that are not sealed."""
+    write = linear.write(linear.cpu_profile(1000))
+    merge = get(b'/profiles/query?query=' + TYPE + b':delta')
+    per_write = {}
+    for count in (15, 16):
+        writes = seconds(program, write * count)
+        per_write[count] = max(seconds(program, write * count + merge * 100) - writes, 1e-9) / count
+    return per_write[16] / per_write[15]
+
+
 def main():
     program = sys.argv[1] if len(sys.argv) > 1 else str(ROOT / 'crates/frostd/out/frostd')
     start = seconds(program, b'')
@@ -71,6 +85,7 @@ def main():
     for less, more in ((100, 1000), (1000, 10000)):
         print(f'time per write, {more} over {less}: {per_write[more] / per_write[less]:.2f}')
         print(f'time per row of a merge, {more} over {less}: {per_row[more] / per_row[less]:.2f}')
+    print(f'time per row of a merge, sealed over not sealed: {sealed_over_loose(program):.2f}')
 
 
 if __name__ == '__main__':
