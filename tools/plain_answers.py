@@ -163,43 +163,54 @@ def sums(rows, key):
     return found
 
 
-def query_of(rng, rows, watermark):
-    """A request and the object of its answer."""
+def made_query(rng, rows):
+    """A request, and the object of its answer as a function of the rows and the watermark."""
     route = rng.choice(['types', 'labels', 'labels/job/values', 'labels/env/values', 'series', 'query_range', 'query'])
-    parameters, kept = [], list(rows)
+    parameters, tests = [], []
     if route in ('query', 'query_range') or (route != 'types' and rng.random() < 0.6):
         text, test = made_filter(rng, rows)
         parameters.append('query=' + urllib.parse.quote(text, safe=''))
-        kept = [row for row in kept if test(row)]
+        tests.append(test)
     for name in ('start', 'end'):
         if rng.random() < 0.3:
             bound = rng.choice([LEAST, MOST, -1, 0, 1, 2, 3, -9223372036855, 9223372036854])
             parameters.append(f'{name}={bound}')
-            kept = [row for row in kept if (bound <= row['timestamp'] if name == 'start' else row['timestamp'] <= bound)]
+            if name == 'start':
+                tests.append(lambda row, bound=bound: bound <= row['timestamp'])
+            else:
+                tests.append(lambda row, bound=bound: row['timestamp'] <= bound)
+    target = '/profiles/' + route + ('?' + '&'.join(parameters) if parameters else '')
+
+    def answer(rows, watermark):
+        return answer_of(route, [row for row in rows if all(test(row) for test in tests)]) | {'watermark': str(watermark)}
+
+    return f'GET {target} HTTP/1.1\r\n\r\n'.encode(), answer
+
+
+def answer_of(route, kept):
+    """What a route answers over the rows that count."""
     if route == 'types':
         names = ('name', 'sampleType', 'sampleUnit', 'periodType', 'periodUnit', 'delta')
-        answer = {'types': [dict(zip(names, kind)) for kind in distinct([row['type'] for row in kept], lambda kind: kind)]}
-    elif route == 'labels':
-        answer = {'labelNames': distinct([name for row in kept for name in row['labels']], str.encode)}
-    elif route.endswith('values'):
+        return {'types': [dict(zip(names, kind)) for kind in distinct([row['type'] for row in kept], lambda kind: kind)]}
+    if route == 'labels':
+        return {'labelNames': distinct([name for row in kept for name in row['labels']], str.encode)}
+    if route.endswith('values'):
         name = route.split('/')[1]
-        answer = {'labelValues': distinct([row['labels'][name] for row in kept if name in row['labels']], str.encode)}
-    elif route == 'series':
+        return {'labelValues': distinct([row['labels'][name] for row in kept if name in row['labels']], str.encode)}
+    if route == 'series':
         found = distinct([(row['type'][0], row['labels']) for row in kept], lambda s: (s[0].encode(), label_key(s[1])))
-        answer = {'series': [{'labels': pairs(labels), 'name': name} for name, labels in found]}
-    elif route == 'query_range':
+        return {'series': [{'labels': pairs(labels), 'name': name} for name, labels in found]}
+    if route == 'query_range':
         series = []
         for labels in distinct([row['labels'] for row in kept], label_key):
             points = sums([row for row in kept if row['labels'] == labels], lambda row: row['timestamp'])
             series.append({'labelset': {'labels': pairs(labels)}, 'samples': [{'timestamp': str(t), 'value': str(points[t])} for t in sorted(points)]})
-        answer = {'series': series}
-    else:
-        stacks = sums(kept, lambda row: tuple(frame.encode() for frame in row['stack']))
-        answer = {'stacks': [{'frames': [frame.decode() for frame in stack], 'value': str(stacks[stack])} for stack in sorted(stacks)],
-                  'total': str(sum(row['value'] for row in kept))}
-    answer['watermark'] = str(watermark)
-    target = '/profiles/' + route + ('?' + '&'.join(parameters) if parameters else '')
-    return f'GET {target} HTTP/1.1\r\n\r\n'.encode(), answer
+        return {'series': series}
+    stacks = sums(kept, lambda row: tuple(frame.encode() for frame in row['stack']))
+    return {
+        'stacks': [{'frames': [frame.decode() for frame in stack], 'value': str(stacks[stack])} for stack in sorted(stacks)],
+        'total': str(sum(row['value'] for row in kept)),
+    }
 
 
 def reply_of(answer):
@@ -217,9 +228,9 @@ def session_of(rng, writes):
         requests.append(request)
         replies.append(reply_of({'number': str(written)}))
         for _ in range(rng.randint(0, 6)):
-            request, answer = query_of(rng, rows, written)
+            request, answer = made_query(rng, rows)
             requests.append(request)
-            replies.append(reply_of(answer))
+            replies.append(reply_of(answer(rows, written)))
     return requests, replies
 
 

@@ -1,0 +1,13 @@
+pub mod AddLaws
+pub mod CellsBack
+pub mod ColumnLaws
+pub mod CountLaws
+pub mod FileLaws
+pub mod FooterFits
+pub mod FramingLaws
+pub mod OneChunk
+pub mod OneFile
+pub mod PageLaws
+pub mod PlaceLaws
+pub mod SizeLaws
+pub mod TextLaws
