@@ -6,7 +6,9 @@
 #![tactic(auto)]
 
 mod columned;
+mod filed;
 mod part;
+mod sealed;
 #[cfg(test)]
 mod tests;
 

@@ -1,16 +1,28 @@
-ghost use Rattle.std.specs.Prelude.{◌≡◌, ◌<◌, ◌^◌, is_some, IfOk};
-ghost use Rattle.fd_kinds.specs.Parts.{loose_part, rows_of};
+ghost use Rattle.std.specs.Prelude.{◌≡◌, ◌≤◌, ◌<◌, ◌^◌, All, is_some, IfOk, IfSome};
+ghost use Rattle.fd_kinds.specs.Parts.{IsWithin, loose_part, rows_of};
+ghost use Rattle.fd_parquet.specs.Files.{IsSmall, IsPlainFileOf};
 ghost use Rattle.fd_part.specs.Parts.{part_meaning};
+ghost use Rattle.fd_part.specs.Ranged.{sealed_part};
 
 use crate::columned::Columned;
-use fd_column::ColumnPart;
+use crate::sealed::Sealed;
+use fd_column::{ColumnPart, Columns};
 use fd_kinds::{Batch, Held, NoMemory};
 
-/// One batch by columns, which is shared without a copy of its rows.
+/// How a part keeps its rows.
+#[derive(Debug, Drop)]
+enum Form {
+    /// One batch, and its number.
+    Loose { number: u64, columned: Columned },
+    /// The rows of a range of numbers, and their file.
+    Filed(Sealed),
+}
+
+/// One batch by columns, or the rows of a range of numbers with their file. It is shared without a
+/// copy of its rows.
 #[derive(Debug, Drop)]
 pub struct Part {
-    number: u64,
-    columned: Columned,
+    form: Form,
 }
 
 impl Part {
@@ -20,8 +32,25 @@ impl Part {
     {
         let columned = Columned::of(batch)?;
         Ok(Part {
-            number: 0,
-            columned,
+            form: Form::Loose {
+                number: 0,
+                columned,
+            },
+        })
+    }
+
+    /// The sealed part of a table whose numbers lie from `lo` to `hi`, with its file. The table is
+    /// not copied.
+    pub fn seal(table: &ColumnPart, lo: u64, hi: u64) -> Result<Part, NoMemory>
+        requires range { lo ≤ hi }
+        requires below { hi < 2 ^ 63 }
+        requires within { All (IsWithin lo hi) table.now }
+        requires small { IsSmall table.now }
+        ensures { IfOk result (λ part. part_meaning part ≡ sealed_part lo hi table.now) }
+    {
+        let sealed = Sealed::of(table, lo, hi)?;
+        Ok(Part {
+            form: Form::Filed(sealed),
         })
     }
 
@@ -30,7 +59,10 @@ impl Part {
         requires { (part_meaning self.now).hi < 2 ^ 63 }
         ensures { IfOk result (λ columns. columns ≡ (part_meaning self.now).rows) }
     {
-        self.columned.numbered(self.number)
+        match &self.form {
+            Form::Loose { number, columned } => columned.numbered(*number),
+            Form::Filed(sealed) => sealed.filed.columns().share(),
+        }
     }
 
     /// The columns of the rows, for a scan that reads no numbers. It takes no memory.
@@ -38,57 +70,84 @@ impl Part {
     pub fn cells(&self) -> &ColumnPart
         ensures { rows_of result.now ≡ rows_of (part_meaning self.now).rows }
     {
-        self.columned.columns()
+        match &self.form {
+            Form::Loose { columned, .. } => columned.columns(),
+            Form::Filed(sealed) => sealed.filed.columns(),
+        }
     }
 
     /// The bytes of the part's file, none where it is not sealed. It takes no memory.
     pub fn file(&self) -> Option<&[u8]>
-        ensures { is_some result ≡ (part_meaning self.now).sealed }
+        ensures sealed { is_some result ≡ (part_meaning self.now).sealed }
+        ensures filed { IfSome result (λ bytes. IsPlainFileOf bytes.now (part_meaning self.now).rows (part_meaning self.now).lo (part_meaning self.now).hi) }
     {
-        None
+        match &self.form {
+            Form::Loose { .. } => None,
+            Form::Filed(sealed) => Some(sealed.filed.file()),
+        }
     }
 }
 
 impl Held for Part {
-    ghost use Rattle.fd_kinds.proofs.PartLaws.{loose_part_is_part};
-    ghost use Rattle.fd_part.specs.Parts.{part_meaning};
+    ghost use Rattle.fd_part.specs.Parts.{part_meaning, form_is_part};
 
     ghost means = { part_meaning };
 
-    ghost sound = { λ part. loose_part_is_part part.number part.columned };
+    ghost sound = { λ part. form_is_part part.form };
 
     fn lo(&self) -> u64 {
-        self.number
+        match &self.form {
+            Form::Loose { number, .. } => *number,
+            Form::Filed(sealed) => sealed.filed.lo(),
+        }
     }
 
     fn hi(&self) -> u64 {
-        self.number
+        match &self.form {
+            Form::Loose { number, .. } => *number,
+            Form::Filed(sealed) => sealed.filed.hi(),
+        }
     }
 
     fn sealed(&self) -> bool {
-        false
+        match &self.form {
+            Form::Loose { .. } => false,
+            Form::Filed(_) => true,
+        }
     }
 
     #[tactic(auto, using(fd_kinds::proofs::PartLaws::length_with_number))]
     fn rows(&self) -> u64 {
-        self.columned.len() as u64
+        match &self.form {
+            Form::Loose { columned, .. } => columned.len() as u64,
+            Form::Filed(sealed) => sealed.filed.columns().len() as u64,
+        }
     }
 
     #[tactic(auto, using(fd_kinds::proofs::PartLaws::sum_by_with_number))]
     fn bytes(&self) -> u64 {
-        self.columned.bytes()
+        match &self.form {
+            Form::Loose { columned, .. } => columned.bytes(),
+            Form::Filed(sealed) => sealed.filed.bytes(),
+        }
     }
 
     fn share(&self) -> Result<Part, NoMemory> {
-        let columned = self.columned.share()?;
-        Ok(Part {
-            number: self.number,
-            columned,
-        })
+        let form = match &self.form {
+            Form::Loose { number, columned } => Form::Loose {
+                number: *number,
+                columned: columned.share()?,
+            },
+            Form::Filed(sealed) => Form::Filed(sealed.share()?),
+        };
+        Ok(Part { form })
     }
 
     #[tactic(auto, using(fd_kinds::proofs::PartLaws::rows_of_with_number))]
     fn number(&mut self, number: u64) {
-        self.number = number;
+        match &mut self.form {
+            Form::Loose { number: own, .. } => *own = number,
+            Form::Filed(_) => {}
+        }
     }
 }

@@ -1,0 +1,125 @@
+ghost use Rattle.std.specs.Prelude.{◌≡◌, ◌≤◌, ◌<◌, ◌+◌, ◌^◌, take, length, All, IfOk};
+ghost use Rattle.fd_kinds.specs.Parts.{IsWithin, held_bytes};
+ghost use Rattle.fd_parquet.specs.Files.{IsSmall, IsPlainFileOf};
+ghost use Rattle.fd_part.specs.Ranged.{sealed_of, sealed_part};
+
+use fd_column::{ColumnPart, Columns};
+use fd_kinds::{Bytes, NoMemory, row_bytes};
+use fd_parquet::write_file;
+use std::marker::Model;
+use std::sync::Arc;
+
+/// Rows by columns with their file and their bytes, which contracts see as the rows and the range
+/// of their numbers.
+#[derive(Debug, Drop)]
+pub struct Filed {
+    lo: u64,
+    hi: u64,
+    columns: ColumnPart,
+    bytes: u64,
+    file: Arc<Bytes>,
+}
+
+impl Model for Filed {
+    ghost use Rattle.std.specs.Arc.{arc_value};
+    ghost use Rattle.fd_part.specs.Ranged.{Ranged, IsFiled};
+
+    ghost Value = { Ranged };
+
+    ghost view = { λ f. record { lo = f.lo; hi = f.hi; rows = f.columns } };
+
+    ghost invariant = { λ f. IsFiled (arc_value f.file) f.columns f.lo f.hi f.bytes };
+}
+
+/// The bytes of the rows before a place and of the row there.
+#[tactic(auto, using(crate::proofs::Sums::held_more))]
+fn with_row(sum: u64, table: &ColumnPart, at: usize) -> Result<u64, NoMemory>
+    requires inside { at < length table.now }
+    requires sum { sum ≡ held_bytes (take at table.now) }
+    ensures { IfOk result (λ more. more ≡ held_bytes (take (at + 1) table.now)) }
+{
+    let row = table.row(at)?;
+    Ok(sum.saturating_add(row_bytes(&row.row)))
+}
+
+/// The bytes of the rows as the log spells them, and 2^64 - 1 where they are more.
+fn sum_of(table: &ColumnPart) -> Result<u64, NoMemory>
+    ensures { IfOk result (λ sum. sum ≡ held_bytes table.now) }
+{
+    let mut sum = 0u64;
+    for at in 0..table.len() {
+        sum = with_row(sum, table, at)?;
+    }
+    Ok(sum)
+}
+
+impl Filed {
+    /// The rows of a table, whose numbers lie from `lo` to `hi`. The table is not copied.
+    pub fn of(table: &ColumnPart, lo: u64, hi: u64) -> Result<Filed, NoMemory>
+        requires range { lo ≤ hi }
+        requires below { hi < 2 ^ 63 }
+        requires within { All (IsWithin lo hi) table.now }
+        requires small { IsSmall table.now }
+        ensures { IfOk result (λ filed. sealed_of filed ≡ sealed_part lo hi table.now) }
+    {
+        let file = write_file(table, lo, hi)?;
+        let bytes = sum_of(table)?;
+        let columns = table.share()?;
+        let file = Arc::new(file.allocator(), file)?;
+        Ok(Filed {
+            lo,
+            hi,
+            columns,
+            bytes,
+            file,
+        })
+    }
+
+    /// The least number of the range.
+    pub fn lo(&self) -> u64
+        ensures { result ≡ self.now.lo }
+    {
+        self.lo
+    }
+
+    /// The greatest number of the range.
+    pub fn hi(&self) -> u64
+        ensures { result ≡ self.now.hi }
+    {
+        self.hi
+    }
+
+    /// The columns of the numbered rows.
+    pub fn columns(&self) -> &ColumnPart
+        ensures { result.now ≡ self.now.rows }
+    {
+        &self.columns
+    }
+
+    /// The bytes of the rows as the log spells them, and 2^64 - 1 where they are more.
+    pub fn bytes(&self) -> u64
+        ensures { result ≡ held_bytes self.now.rows }
+    {
+        self.bytes
+    }
+
+    /// The bytes of the file.
+    pub fn file(&self) -> &[u8]
+        ensures { IsPlainFileOf result.now self.now.rows self.now.lo self.now.hi }
+    {
+        self.file.as_slice()
+    }
+
+    /// The same rows and file, which cost no copy.
+    pub fn share(&self) -> Result<Filed, NoMemory>
+        ensures { IfOk result (λ copy. copy ≡ self.now) }
+    {
+        Ok(Filed {
+            lo: self.lo,
+            hi: self.hi,
+            columns: self.columns.share()?,
+            bytes: self.bytes,
+            file: self.file.clone()?,
+        })
+    }
+}
