@@ -1,0 +1,2 @@
+pub mod Compactions
+pub mod Sealable

@@ -1,0 +1,101 @@
+ghost use Rattle.std.specs.Prelude.{◌≡◌, ℕ, ◌≤◌, ◌<◌, length, map, IfOk, OnErr, Ok, None};
+ghost use Rattle.fd_part.specs.Parts.{part_meaning};
+ghost use Rattle.fd_shelf.specs.Books.{IsSealed, all_parts};
+ghost use Rattle.fd_shelf.specs.Histories.{hist};
+ghost use Rattle.fd_shelf.specs.Steps.{loose_upto};
+ghost use Rattle.fd_shelf.specs.Replacing.{HasRowsOf, IsChanged, replaced};
+ghost use Rattle.fd_compact.specs.Compactions.{Compacts, CompactsFull, loose_parts};
+
+use crate::Compaction;
+use crate::sealing::{Sealing, sealed_of};
+use fd_kinds::NoMemory;
+use fd_part::Part;
+use fd_shelf::{NotReplaced, Picked, Shelf};
+
+/// So many parts that are not sealed are compacted.
+const FULL: u64 = 16;
+
+/// Puts a sealed part in place of the parts of its range, against which no number stands.
+fn put(shelf: &mut Shelf<Part>, sealing: Sealing) -> Compaction
+    requires sealed { IsSealed (part_meaning sealing.part) }
+    requires lo { (part_meaning sealing.part).lo ≡ sealing.lo }
+    requires hi { (part_meaning sealing.part).hi ≡ sealing.hi }
+    requires rows { HasRowsOf (all_parts shelf.old.book) (part_meaning sealing.part) }
+    requires free { (n : ℕ) → IsChanged sealing.lo sealing.hi shelf.old.book.active n → ⊥ }
+    ensures told { result ≡ Compaction.Compacted sealing.lo sealing.hi sealing.rows }
+    ensures placed { shelf.new ≡ replaced (part_meaning sealing.part) shelf.old }
+    ensures history { (m : ℕ) → hist shelf.new.book m ≡ hist shelf.old.book m }
+{
+    let Sealing { lo, hi, rows, part } = sealing;
+    let active = shelf.active();
+    match shelf.replace(active, lo, hi, part) {
+        Ok(()) => Compaction::Compacted { lo, hi, rows },
+        Err(NotReplaced::Overtaken { .. }) => unreachable!(),
+        Err(NotReplaced::Changed { .. }) => unreachable!(),
+    }
+}
+
+/// Compacts the parts that a shelf told up to a limit.
+fn compact_picked(
+    shelf: &mut Shelf<Part>,
+    limit: u64,
+    picked: &Picked<Part>,
+) -> Result<Compaction, NoMemory>
+    requires { map (λ i. part_meaning i.part) picked.now ≡ loose_upto shelf.old.book limit }
+    ensures compacts { IfOk result (λ done. Compacts (loose_upto shelf.old.book limit) shelf.old done shelf.new) }
+    ensures unchanged { OnErr result (shelf.new ≡ shelf.old) }
+    ensures history { (m : ℕ) → hist shelf.new.book m ≡ hist shelf.old.book m }
+{
+    let parts = picked.as_slice();
+    if parts.len() < 2 {
+        return Ok(Compaction::Nothing {
+            parts: parts.len() as u64,
+        });
+    }
+    shelf.is_in_order();
+    shelf.level0_laws(limit);
+    let sealing = sealed_of(picked.allocator(), parts)?;
+    Ok(put(shelf, sealing))
+}
+
+/// Merges the parts of the active block that are not sealed and hold a number up to the limit, and
+/// puts one sealed part in their place, which changes no batch of the history. Fewer than two parts
+/// stay as they are.
+pub fn compact_shelf(shelf: &mut Shelf<Part>, limit: u64) -> Result<Compaction, NoMemory>
+    // Exactly fewer than two parts stay; else one sealed part has all their rows in order.
+    ensures compacts { IfOk result (λ done. Compacts (loose_upto shelf.old.book limit) shelf.old done shelf.new) }
+    ensures unchanged { OnErr result (shelf.new ≡ shelf.old) }
+
+    // No batch is changed, and all else stays.
+    ensures history { (m : ℕ) → hist shelf.new.book m ≡ hist shelf.old.book m }
+    ensures mark { shelf.new.mark ≡ shelf.old.mark }
+    ensures closed { shelf.new.book.closed ≡ shelf.old.book.closed }
+    ensures stragglers { shelf.new.book.stragglers ≡ shelf.old.book.stragglers }
+    ensures spare { shelf.new.spare ≡ shelf.old.spare }
+{
+    let picked = shelf.level0(limit)?;
+    compact_picked(shelf, limit, &picked)
+}
+
+/// Compacts all parts of the active block that are not sealed where they are 16 or more.
+pub fn compact_full(shelf: &mut Shelf<Part>) -> Result<Option<Compaction>, NoMemory>
+    // Exactly fewer than 16 parts stay, which takes no memory; else all are compacted.
+    ensures compacts { IfOk result (λ done. CompactsFull shelf.old done shelf.new) }
+    ensures few { length (loose_parts shelf.old) < 16 → result ≡ Ok None }
+    ensures unchanged { OnErr result (shelf.new ≡ shelf.old) }
+
+    // No batch is changed, and all else stays.
+    ensures history { (m : ℕ) → hist shelf.new.book m ≡ hist shelf.old.book m }
+    ensures mark { shelf.new.mark ≡ shelf.old.mark }
+    ensures closed { shelf.new.book.closed ≡ shelf.old.book.closed }
+    ensures stragglers { shelf.new.book.stragglers ≡ shelf.old.book.stragglers }
+    ensures spare { shelf.new.spare ≡ shelf.old.spare }
+{
+    if shelf.loose() < FULL {
+        return Ok(None);
+    }
+    shelf.is_in_order();
+    let limit = shelf.mark();
+    let done = compact_shelf(shelf, limit)?;
+    Ok(Some(done))
+}
