@@ -12,7 +12,10 @@ use fd_kinds::NoMemory;
 use fd_part::Part;
 use fd_shelf::{NotReplaced, Picked, Shelf};
 
-/// So many parts that are not sealed are compacted.
+/// Fewer parts are not compacted.
+const FEWEST: usize = 2;
+
+/// Parts that are not sealed are compacted where they are so many or more.
 const FULL: u64 = 16;
 
 /// Puts a sealed part in place of the parts of its range, against which no number stands.
@@ -47,7 +50,7 @@ fn compact_picked(
     ensures history { (m : ℕ) → hist shelf.new.book m ≡ hist shelf.old.book m }
 {
     let parts = picked.as_slice();
-    if parts.len() < 2 {
+    if parts.len() < FEWEST {
         return Ok(Compaction::Nothing {
             parts: parts.len() as u64,
         });

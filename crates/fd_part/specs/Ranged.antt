@@ -2,7 +2,8 @@
 use Rattle.std.specs.Prelude.{◌≡◌, ℕ, ◌≤◌, true, List, All}
 use Rattle.fd_kinds.specs.declared.row.Numbered.{Numbered}
 use Rattle.fd_kinds.specs.Parts.{PartMeaning, IsPart, IsWithin, held_bytes}
-use Rattle.fd_parquet.specs.Files.{IsPlainFileOf}
+use Rattle.fd_footer.specs.declared.footer.Pages.TheVariants.{Plain}
+use Rattle.fd_parquet.specs.Files.{IsFileOf}
 
 -- numbered rows, and the range in which their numbers lie
 pub record Ranged : Type 0 where
@@ -12,7 +13,7 @@ pub record Ranged : Type 0 where
 
 -- these bytes are the file of the rows, whose bytes in the log are counted
 pub record IsFiled (file : List ℕ) (rows : List Numbered) (lo hi bytes : ℕ) : Type 0 where
-  pub filed : IsPlainFileOf file rows lo hi
+  pub filed : IsFileOf Plain file rows lo hi
   pub counted : bytes ≡ held_bytes rows
 
 -- the part of these rows and this range, which is sealed

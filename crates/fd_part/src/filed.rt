@@ -1,6 +1,7 @@
 ghost use Rattle.std.specs.Prelude.{◌≡◌, ◌≤◌, ◌<◌, ◌+◌, ◌^◌, take, length, All, IfOk};
 ghost use Rattle.fd_kinds.specs.Parts.{IsWithin, held_bytes};
-ghost use Rattle.fd_parquet.specs.Files.{IsSmall, IsPlainFileOf};
+ghost use Rattle.fd_footer.specs.declared.footer.Pages.TheVariants.{Plain};
+ghost use Rattle.fd_parquet.specs.Files.{IsSmall, IsFileOf};
 ghost use Rattle.fd_part.specs.Ranged.{sealed_of, sealed_part};
 
 use fd_column::{ColumnPart, Columns};
@@ -105,7 +106,7 @@ impl Filed {
 
     /// The bytes of the file.
     pub fn file(&self) -> &[u8]
-        ensures { IsPlainFileOf result.now self.now.rows self.now.lo self.now.hi }
+        ensures { IsFileOf Plain result.now self.now.rows self.now.lo self.now.hi }
     {
         self.file.as_slice()
     }

@@ -1,8 +1,9 @@
-//! Parts of a store: one batch by columns.
+//! Parts of a store: one batch by columns, or the rows of a range of numbers with their file.
 //!
 //! A fresh part takes the rows of a batch out of their list and puts them in columns once, with
 //! the number 0, and sums their bytes once. Its number stands beside them, so that sharing a part,
-//! giving it its number and reading its columns copies no rows.
+//! giving it its number and reading its columns copies no rows. A sealed part keeps the table that it
+//! was sealed from, and the file of it.
 #![tactic(auto)]
 
 mod columned;

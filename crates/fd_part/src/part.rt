@@ -1,6 +1,7 @@
 ghost use Rattle.std.specs.Prelude.{◌≡◌, ◌≤◌, ◌<◌, ◌^◌, All, is_some, IfOk, IfSome};
 ghost use Rattle.fd_kinds.specs.Parts.{IsWithin, loose_part, rows_of};
-ghost use Rattle.fd_parquet.specs.Files.{IsSmall, IsPlainFileOf};
+ghost use Rattle.fd_footer.specs.declared.footer.Pages.TheVariants.{Plain};
+ghost use Rattle.fd_parquet.specs.Files.{IsSmall, IsFileOf};
 ghost use Rattle.fd_part.specs.Parts.{part_meaning};
 ghost use Rattle.fd_part.specs.Ranged.{sealed_part};
 
@@ -79,7 +80,7 @@ impl Part {
     /// The bytes of the part's file, none where it is not sealed. It takes no memory.
     pub fn file(&self) -> Option<&[u8]>
         ensures sealed { is_some result ≡ (part_meaning self.now).sealed }
-        ensures filed { IfSome result (λ bytes. IsPlainFileOf bytes.now (part_meaning self.now).rows (part_meaning self.now).lo (part_meaning self.now).hi) }
+        ensures filed { IfSome result (λ bytes. IsFileOf Plain bytes.now (part_meaning self.now).rows (part_meaning self.now).lo (part_meaning self.now).hi) }
     {
         match &self.form {
             Form::Loose { .. } => None,

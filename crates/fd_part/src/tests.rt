@@ -64,3 +64,29 @@ fn rows_stand_in_columns_with_their_number(rt: HostRuntime) -> Result<(), Fail> 
     assert_eq!(rt; part.cells().len(), 2);
     Ok(())
 }
+
+// The part with the rows of another, sealed. Rows of 2^29 bytes or more want memory.
+fn sealed(part: &Part) -> Result<Part, NoMemory> {
+    let lo = part.lo();
+    let hi = part.hi();
+    if hi >= 1 << 63 || part.bytes() >= 1 << 29 {
+        return Err(NoMemory);
+    }
+    let columns = part.columns()?;
+    Part::seal(&columns, lo, hi)
+}
+
+#[test]
+fn a_sealed_part_has_its_range_its_rows_and_a_file(rt: HostRuntime) -> Result<(), Fail> {
+    let alloc = rt.alloc();
+    let mut loose = Part::fresh(batch(alloc)?)?;
+    loose.number(9);
+    let part = sealed(&loose)?.share()?;
+    assert_eq!(rt; (part.lo(), part.hi()), (9, 9));
+    assert_eq!(rt; (part.rows(), part.bytes()), (2, 2 * ROW));
+    assert!(rt; part.sealed());
+    assert_eq!(rt; (part.columns()?.len(), part.cells().len()), (2, 2));
+    let file = part.file().ok_or("file")?;
+    assert!(rt; file.starts_with(b"PAR1") && file.ends_with(b"PAR1"));
+    Ok(())
+}
