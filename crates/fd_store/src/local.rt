@@ -5,6 +5,7 @@ ghost use Rattle.fd_shelf.specs.Histories.{hist, in_row_order};
 ghost use Rattle.fd_part.specs.Parts.{part_meaning};
 
 use fd_answer::answer;
+use fd_compact::compact_full;
 use fd_kinds::{Batch, Held, NoMemory, Query, ReadRefusal, Seen, Stand, Store, WriteRefusal};
 use fd_meaning::order_laws;
 use fd_part::Part;
@@ -120,6 +121,8 @@ impl Store for Local {
         let part = Part::fresh(batch)?;
         self.shelf.reserve(1)?;
         add(&mut self.shelf, part);
+        // Where memory is wanting for it, a later write compacts.
+        let _ = compact_full(&mut self.shelf);
         Ok(drawn + 1)
     }
 

@@ -2,4 +2,6 @@
 #![tactic(auto)]
 
 #[cfg(test)]
+mod sealed_parts;
+#[cfg(test)]
 mod tests;

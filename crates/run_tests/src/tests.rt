@@ -10,10 +10,10 @@ use std::alloc::Global;
 use std::test::Fail;
 
 /// A write of one profile: the stack `main` with 10, and `work` over `main` with 20.
-const WRITE: &[u8] =
+pub(crate) const WRITE: &[u8] =
     b"POST /profiles/writeraw HTTP/1.1\r\nHost: a\r\nContent-Length: 269\r\n\r\n{\"series\":[{\"labels\":{\"labels\":[{\"name\":\"__name__\",\"value\":\"process_cpu\"},{\"name\":\"job\",\"value\":\"api\"}]},\"samples\":[{\"rawProfile\":\"CgQIARACEgQIARAKEgYIAggBEBQiBggBIgIIASIGCAIiAggCKgQIARADKgQIAhAEMgAyA2NwdTILbmFub3NlY29uZHMyBG1haW4yBHdvcmtIgJTr3ANaBAgBEAJggK3iBA==\"}]}]}";
 
-const MERGE: &[u8] =
+pub(crate) const MERGE: &[u8] =
     b"GET /profiles/query?query=process_cpu:cpu:nanoseconds:cpu:nanoseconds HTTP/1.1\r\n\r\n";
 
 /// The words, the pieces of the input, the read and the write that fail (0 for none), and what
@@ -281,7 +281,7 @@ fn queries_are_refused(rt: HostRuntime) -> Result<(), Fail> {
 }
 
 // A piece, so many times.
-fn repeated(alloc: Global, piece: &[u8], times: u32) -> Result<Bytes, Fail> {
+pub(crate) fn repeated(alloc: Global, piece: &[u8], times: u32) -> Result<Bytes, Fail> {
     let mut bytes = Bytes::new(alloc);
     for _ in 0..times {
         bytes.extend(piece)?;

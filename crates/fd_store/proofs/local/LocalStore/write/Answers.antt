@@ -12,7 +12,9 @@ returns-clause-gives c =
     let rows : rows_of (part_meaning c.in_ok-part.part).rows ≡ c.args.batch.rows = ap (λ p. rows_of p.rows) c.in_ok-part.ensures ∙ rows_of_with_number 0 c.args.batch.rows in (
       omega (arith, counted, c.if-drawn-ge-MOST_NUMBERS.false),
       ap (λ n. n + 1) counted,
-      c.add.ensures.history
+      ap (hist c.compact_full.new.shelf.book) c.compact_full.ensures.mark
+          ∙ c.compact_full.ensures.history c.add.new.shelf.mark
+          ∙ c.add.ensures.history
           ∙ ap (λ book. hist book c.reserve.new.self.mark ++ in_row_order (rows_of (part_meaning c.in_ok-part.part).rows) ∷ []) c.in_ok-reserve.ensures.book
           ∙ ap (λ mark. hist c.self.inside.shelf.book mark ++ in_row_order (rows_of (part_meaning c.in_ok-part.part).rows) ∷ []) c.in_ok-reserve.ensures.mark
           ∙ ap (λ history. history ++ in_row_order (rows_of (part_meaning c.in_ok-part.part).rows) ∷ []) c.self.view_is
