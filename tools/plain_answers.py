@@ -45,6 +45,7 @@ class Profile:
         self.period_type = rng.choice([('cpu', 'nanoseconds'), ('space', 'bytes')])
         self.nanos = rng.choice([LEAST, MOST, -1, 0, 999_999, 1_000_000, rng.randint(0, 4_000_000), rng.randint(0, 4_000_000)])
         self.duration = rng.choice([0, 0, 1, 30_000_000_000, -5])
+        self.period = 10
         frames = ['main', 'work', 'a', 'b', 'ab', '']
         self.samples = []
         for _ in range(rng.randint(0, 6)):
@@ -73,18 +74,20 @@ class Profile:
             parts.append(held(4, number(1, at) + held(4, number(1, at))))
             parts.append(held(5, number(1, at) + number(2, place(frame))))
         tail = [number(9, self.nanos), number(10, self.duration)]
-        tail.append(held(11, number(1, place(self.period_type[0])) + number(2, place(self.period_type[1]))) + number(12, 10))
+        tail.append(held(11, number(1, place(self.period_type[0])) + number(2, place(self.period_type[1]))) + number(12, self.period))
         return b''.join(parts + [held(6, text.encode()) for text in texts] + tail)
 
     def rows(self, labels):
         name = labels['__name__']
         kept = {k: v for k, v in labels.items() if k != '__name__' and v != ''}
-        for stack, values, _ in self.samples:
+        for stack, values, tags in self.samples:
             for (kind, unit), value in zip(self.types, values):
                 if value != 0:
                     yield {
                         'type': (name, kind, unit) + self.period_type + (self.duration != 0,), 'labels': kept,
                         'timestamp': self.nanos // 1_000_000, 'stack': stack, 'value': value,
+                        'sample_labels': {k: v for k, v in tags.items() if v != ''},
+                        'period': self.period, 'duration': self.duration,
                     }
 
 
@@ -112,10 +115,10 @@ def made_labels(rng):
     return labels
 
 
-def write_of(rng):
+def write_of(rng, most=3):
     """A request of some series, and its rows."""
     series, rows = [], []
-    for _ in range(rng.randint(0, 3)):
+    for _ in range(rng.randint(0, most)):
         labels = made_labels(rng)
         profiles = [Profile(rng) for _ in range(rng.randint(0, 2))]
         order = list(labels.items())
