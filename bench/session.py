@@ -1,5 +1,5 @@
 #!/usr/bin/env python3
-"""Requests, writes and queries per second of one session over the proved program.
+"""Requests, writes and queries per second of processor time, in one session over the proved program.
 
 usage: bench/session.py [PROGRAM]     PROGRAM: default crates/frostd/out/frostd, made by `rt run`
 
@@ -11,11 +11,10 @@ off by a session without requests.
 """
 import base64
 import pathlib
-import subprocess
 import sys
-import time
 
 import linear
+from linear import seconds
 
 ROOT = pathlib.Path(__file__).resolve().parent.parent
 PROFILE = base64.b64encode(bytes.fromhex(
@@ -43,17 +42,6 @@ QUERIES = {
 }
 
 
-def seconds(program, requests):
-    """The least of three times that the program takes for these requests."""
-    times = []
-    for _ in range(3):
-        begin = time.perf_counter()
-        done = subprocess.run([program, 'session'], input=requests, stdout=subprocess.PIPE, check=True)
-        times.append(time.perf_counter() - begin)
-        assert done.stdout.count(b'HTTP/1.1 200 OK') == requests.count(b' HTTP/1.1\r\n')
-    return min(times)
-
-
 def sealed_over_loose(program):
     """The time per row of a merge over one sealed part, over that over parts that are not sealed."""
     write = linear.write(linear.cpu_profile(1000))
@@ -61,12 +49,12 @@ def sealed_over_loose(program):
     per_write = {}
     for count in (15, 16):
         writes = seconds(program, write * count)
-        per_write[count] = max(seconds(program, write * count + merge * 100) - writes, 1e-9) / count
+        per_write[count] = max(seconds(program, write * count + merge * 1000) - writes, 1e-9) / count
     return per_write[16] / per_write[15]
 
 
 def main():
-    program = sys.argv[1] if len(sys.argv) > 1 else str(ROOT / 'crates/frostd/out/frostd')
+    program = [sys.argv[1] if len(sys.argv) > 1 else str(ROOT / 'crates/frostd/out/frostd')]
     start = seconds(program, b'')
     for count in (10000, 50000):
         took = max(seconds(program, STATUS * count) - start, 1e-9)
@@ -77,7 +65,7 @@ def main():
         per_write[count] = writes / count
         print(f'{count} writes: {count / writes:.0f}/s')
         for name, query in QUERIES.items():
-            times = 10000 // count
+            times = max(400_000 // count, 400)
             took = max(seconds(program, WRITE * count + query * times) - start - writes, 1e-9)
             print(f'  {name}: {times / took:.0f}/s over {2 * count} rows')
             if name == 'merge':

@@ -8,7 +8,7 @@ usage: tools/failing_allocations.py [PROGRAM [WRITES [STEP]]]
 Wants a C compiler (cc) and a dynamically linked program. Each number is tried twice: that one allocation
 fails, and all from it on fail. Every reply must be what a plain list of rows gives, or the reply to want of
 memory, behind which a write may have been counted or not; the status must be 0, or 7 where what is left is
-a front of that reply.
+a front of the last such reply.
 """
 import os
 import pathlib
@@ -22,8 +22,9 @@ sys.path.insert(0, str(ROOT / 'tools'))
 from plain_answers import made_query, reply_of, write_of  # noqa: E402
 
 BODY = b'{"error":"NoMemory"}'
-NO_MEMORY = (b'HTTP/1.1 503 Service Unavailable\r\nContent-Type: application/json\r\n'
-             b'Content-Length: %d\r\n\r\n' % len(BODY) + BODY)
+HEAD = b'HTTP/1.1 503 Service Unavailable\r\nContent-Type: application/json\r\nContent-Length: %d\r\n' % len(BODY)
+NO_MEMORY = HEAD + b'\r\n' + BODY
+LAST = HEAD + b'Connection: close\r\n\r\n' + BODY
 
 
 def made_steps(writes):
@@ -62,7 +63,7 @@ def fault(steps, output, status):
             rest = rest[len(kept[0][0]):]
             states = [state for _, state in kept]
             continue
-        if status == 7 and NO_MEMORY.startswith(rest):
+        if status == 7 and LAST.startswith(rest):
             return None
         return f'status {status}, request {at}: {rest[:200]!r}'
     return None if rest == b'' and status in (0, 7) else f'status {status} at the end: {rest[:200]!r}'
