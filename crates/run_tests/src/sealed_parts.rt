@@ -1,3 +1,5 @@
+ghost use Rattle.std.specs.Prelude.{◌≡◌};
+
 use crate::tests::{MERGE, WRITE, repeated};
 use fd_api::session;
 use fd_compact::{Compaction, compact_full, compact_shelf};
@@ -65,7 +67,9 @@ fn the_sixteenth_write_leaves_one_sealed_part(rt: HostRuntime) -> Result<(), Fai
 }
 
 // Whether fifteen parts stay as they are, unless they are compacted up to a limit.
-fn fifteen_wait(shelf: &mut Shelf<Part>) -> Result<bool, Fail> {
+fn fifteen_wait(shelf: &mut Shelf<Part>) -> Result<bool, Fail>
+    ensures { shelf.new.book.stragglers ≡ shelf.old.book.stragglers }
+{
     let waits = compact_full(shelf)?.is_none() && shelf.loose() == 15;
     let one = compact_shelf(shelf, 1)? == Compaction::Nothing { parts: 1 };
     Ok(waits && one && shelf.loose() == 15)
