@@ -15,9 +15,9 @@ use Rattle.fd_pages.specs.declared.fault.PageFault.TheVariants as pages
 use Rattle.fd_thrift.specs.Values.{struct}
 use Rattle.fd_thrift.specs.declared.tree.Tree.{Struct, the_lemmas}
 use Rattle.fd_thrift.specs.View.{view, fields_view}
-use Rattle.fd_thrift.specs.Spelling.{Spells, IsFormed}
+use Rattle.fd_thrift.specs.Spelling.{Spells, IsFormed, spelling}
 use Rattle.fd_thrift.specs.Reading.{Begins, Fails}
-use Rattle.fd_pages.specs.Pages.{page_header, data_page_header, header_bytes}
+use Rattle.fd_pages.specs.Pages.{page_header_in, data_page_header_in, page_header, header_bytes}
 use Rattle.fd_pages.specs.Reading.{fault_of}
 
 -- a header has a second field
@@ -26,19 +26,23 @@ second_field [] count size e h = cc
 second_field (f ∷ []) count size e h = cc
 second_field (f ∷ g ∷ fs) count size e h = omega (arith, ltb-false 1 (length (f ∷ g ∷ fs)) (sym h))
 
-fits_whole : (n : ℕ) → n < 2 ^ 31 → FitsSigned w32 (pos n)
+pub fits_whole : (n : ℕ) → n < 2 ^ 31 → FitsSigned w32 (pos n)
 fits_whole n lt = record { sfits = lt }
 
-pub header_spells : (count size : ℕ) → count < 2 ^ 31 → size < 2 ^ 31 → Spells (header_bytes count size) (page_header count size)
-unfolding header_bytes
-header_spells count size counted small = record {
+-- the header of a page with values in an encoding
+pub header_in_spells : (encoding count size : ℕ) → encoding < 2 ^ 31 → count < 2 ^ 31 → size < 2 ^ 31 → Spells (spelling (page_header_in encoding count size)) (page_header_in encoding count size)
+header_in_spells encoding count size encoded counted small = record {
   legal = record { struct = refl; within = lit≤ tt; formed = ((lit< tt, lit≤ tt, lit≤ tt), tt, ((lit< tt, lit≤ tt, lit≤ tt), tt, ((lit< tt, lit≤ tt, lit≤ tt), tt, ((lit< tt, lit≤ tt, lit≤ tt), numbered, tt)))) };
-  fits = (fits_whole 0 (omega arith), (fits_whole size small, (fits_whole size small, ((fits_whole count counted, (fits_whole 0 (omega arith), (fits_whole 3 (omega arith), (fits_whole 3 (omega arith), tt)))), tt))));
+  fits = (fits_whole 0 (omega arith), (fits_whole size small, (fits_whole size small, ((fits_whole count counted, (fits_whole encoding encoded, (fits_whole 3 (omega arith), (fits_whole 3 (omega arith), tt)))), tt))));
   whole = refl;
 }
   where
-    numbered : IsFormed (data_page_header count)
+    numbered : IsFormed (data_page_header_in encoding count)
     numbered = ((lit< tt, lit≤ tt, lit≤ tt), tt, ((lit< tt, lit≤ tt, lit≤ tt), tt, ((lit< tt, lit≤ tt, lit≤ tt), tt, ((lit< tt, lit≤ tt, lit≤ tt), tt, tt))))
+
+pub header_spells : (count size : ℕ) → count < 2 ^ 31 → size < 2 ^ 31 → Spells (header_bytes count size) (page_header count size)
+unfolding header_bytes
+header_spells count size counted small = header_in_spells 0 count size (omega arith) counted small
 
 -- the header in front of bytes
 pub header_begins : (bytes : List ℕ) (count size : ℕ) (rest : List ℕ) → count < 2 ^ 31 → size < 2 ^ 31 → bytes ≡ header_bytes count size ++ rest

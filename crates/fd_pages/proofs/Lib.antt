@@ -6,3 +6,7 @@ pub mod Bodies
 pub mod HeaderLaws
 pub mod Lengths
 pub mod OnePage
+pub mod Fronts
+pub mod OneDictionary
+pub mod OneCodePage
+pub mod Described

@@ -1,3 +1,4 @@
 pub mod Columns
+pub mod Dictionaries
 pub mod Pages
 pub mod Reading

@@ -24,22 +24,29 @@ abbrev pub rle_encoding : ℕ
 rle_encoding = 3
 
 -- DataPageHeader: 1 num_values, which counts absent values too; 2 encoding; 3 definition_level_encoding; 4 repetition_level_encoding
-abbrev pub data_page_header : ℕ → Value
-data_page_header count = struct
+abbrev pub data_page_header_in : ℕ → ℕ → Value
+data_page_header_in encoding count = struct
     (field (pos 1) (whole32 (pos count))
-    (field (pos 2) (whole32 (pos plain_encoding))
+    (field (pos 2) (whole32 (pos encoding))
     (field (pos 3) (whole32 (pos rle_encoding))
     (field (pos 4) (whole32 (pos rle_encoding))
     no_fields))))
 
 -- PageHeader: 1 type; 2 uncompressed_page_size and 3 compressed_page_size, which are the body's and do not count the header; 5 data_page_header
-abbrev pub page_header : ℕ → ℕ → Value
-page_header count size = struct
+abbrev pub page_header_in : ℕ → ℕ → ℕ → Value
+page_header_in encoding count size = struct
     (field (pos 1) (whole32 (pos data_page))
     (field (pos 2) (whole32 (pos size))
     (field (pos 3) (whole32 (pos size))
-    (field (pos 5) (data_page_header count)
+    (field (pos 5) (data_page_header_in encoding count)
     no_fields))))
+
+-- the same of values in PLAIN
+abbrev pub data_page_header : ℕ → Value
+data_page_header count = data_page_header_in plain_encoding count
+
+abbrev pub page_header : ℕ → ℕ → Value
+page_header count size = page_header_in plain_encoding count size
 
 -- the header of a page with so many cells and so many bytes in its body
 unfoldable pub header_bytes : ℕ → ℕ → List ℕ

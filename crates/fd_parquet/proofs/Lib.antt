@@ -6,8 +6,10 @@ pub mod FileLaws
 pub mod FooterFits
 pub mod FramingLaws
 pub mod OneChunk
+pub mod OneCoded
 pub mod OneFile
 pub mod PageLaws
 pub mod PlaceLaws
+pub mod SameTable
 pub mod SizeLaws
 pub mod TextLaws

@@ -1,7 +1,7 @@
--- A table has one file for each range, and no bytes are the file of two tables.
-use Rattle.std.proofs.Common.{◌≡◌, ℕ, ◌+◌, ◌==◌, Bool, true, false, if◌then◌else◌, List, [], ◌∷◌, length, map, drop, refl, sym, ap, ◌∙◌, subst, arith, rules}
+-- A table has one file for each range and kind of pages, and no bytes are the files of two tables, ranges or kinds.
+use Rattle.std.proofs.Common.{◌≡◌, ℕ, ◌+◌, ◌<◌, ◌^◌, ◌==◌, List, [], ◌∷◌, length, drop, refl, sym, ap, ◌∙◌, subst, arith}
 use Rattle.std.specs.Prelude.{All}
-use Rattle.std.specs.List.{AllZip, concat}
+use Rattle.std.specs.List.{concat, flat_map}
 use Rattle.fd_kinds.specs.declared.row.Numbered.{Numbered}
 use Rattle.fd_column.specs.Cells.{Column, columns_of}
 use Rattle.fd_thrift.specs.Spelling.{Spells}
@@ -11,40 +11,48 @@ use Rattle.fd_footer.specs.declared.footer.Footer.{Footer}
 use Rattle.fd_footer.specs.declared.footer.Pages.{Pages}
 use Rattle.fd_footer.specs.declared.footer.Pages.TheVariants.{Plain, Dict}
 use Rattle.fd_footer.specs.Footers.{footer_value, footer_bytes, IsWritable}
-use Rattle.fd_parquet.specs.Columns.{file_column, kind_of, is_required, cells_of}
+use Rattle.fd_parquet.specs.Columns.{kind_of, is_required, cells_of}
 use Rattle.fd_parquet.specs.Chunks.{IsChunkOf}
 use Rattle.fd_parquet.specs.Files.{magic, framed, places_from, footer_of, IsPlainFileOf, IsFileOf}
-use Rattle.fd_parquet.proofs.ColumnLaws.{cells_length}
+use Rattle.fd_parquet.specs.Coded.{Pieces, piece_bytes, pieces_from, coded_footer, IsCodedChunkOf, IsDictFileOf}
 use Rattle.fd_parquet.proofs.OneChunk.{OneRuns, OnePage, one_chunk, one_cells, chunk_fits, split_same}
+use Rattle.fd_parquet.proofs.OneCoded.{OneDictionary, OneCodePage, OneCoding, one_pieces, pieces_tell, pieces_fit, pieces_once}
+use Rattle.fd_parquet.proofs.SameTable.{one_list, rows_by}
 use Rattle.fd_parquet.proofs.FramingLaws.{framed_once}
-use Rattle.fd_parquet.proofs.CellsBack.{AllSame, same_columns, same_rows}
 use Rattle.fd_parquet.proofs.FooterFits.{footer_spelled}
 
 -- ---- one file
 
-one_list : OneRuns → (rows : List Numbered) (cs : List Column) (xs ys : List (List ℕ)) → AllZip (IsChunkOf rows) cs xs → AllZip (IsChunkOf rows) cs ys → xs ≡ ys
-one_list one_runs rows [] [] [] h g = refl
-one_list one_runs rows [] [] (y ∷ ys) h g = absurd g
-one_list one_runs rows [] (x ∷ xs) ys h g = absurd h
-one_list one_runs rows (c ∷ cs) [] ys h g = absurd h
-one_list one_runs rows (c ∷ cs) (x ∷ xs) [] h g = absurd g
-one_list one_runs rows (c ∷ cs) (x ∷ xs) (y ∷ ys) h g =
-    let first = one_chunk one_runs (kind_of c) (is_required c) (cells_of c rows) x y h.0.chunk g.0.chunk in
-    let others = one_list one_runs rows cs xs ys h.1 g.1 in
-    λ i. first i ∷ others i
+one_plain_chunk : OneRuns → (rows : List Numbered) (c : Column) (x y : List ℕ) → IsChunkOf rows c x → IsChunkOf rows c y → x ≡ y
+one_plain_chunk one_runs rows c x y p q = one_chunk one_runs (kind_of c) (is_required c) (cells_of c rows) x y p.chunk q.chunk
 
-pub one_file : OneRuns → (pages : Pages) (rows : List Numbered) (lo hi : ℕ) (a b : List ℕ) → IsFileOf pages a rows lo hi → IsFileOf pages b rows lo hi → a ≡ b
-one_file one_runs Plain rows lo hi a b p q =
+pub one_file : OneRuns → OneCoding → (pages : Pages) (rows : List Numbered) (lo hi : ℕ) (a b : List ℕ) → IsFileOf pages a rows lo hi → IsFileOf pages b rows lo hi → a ≡ b
+one_file one_runs one_coding Plain rows lo hi a b p q =
     p.whole
-    ∙ ap (λ (chunks : List (List ℕ)). framed (concat chunks) (footer_bytes (footer_of rows lo hi chunks))) (one_list one_runs rows (columns_of rows) p.chunks q.chunks p.spelled q.spelled)
+    ∙ ap (λ (chunks : List (List ℕ)). framed (concat chunks) (footer_bytes (footer_of rows lo hi chunks)))
+    (one_list (IsChunkOf rows) (one_plain_chunk one_runs rows) (columns_of rows) p.chunks q.chunks p.spelled q.spelled)
     ∙ sym q.whole
-one_file one_runs Dict rows lo hi a b p q = absurd p
+one_file one_runs one_coding Dict rows lo hi a b p q =
+    p.whole
+    ∙ ap (λ (chunks : List Pieces). framed (flat_map piece_bytes chunks) (footer_bytes (coded_footer rows lo hi chunks)))
+    (one_list (IsCodedChunkOf rows) (one_pieces one_runs one_coding rows) (columns_of rows) p.chunks q.chunks p.spelled q.spelled)
+    ∙ sym q.whole
 
 -- ---- one table
 
 -- what is known of footers
 abbrev pub OneFooter : Type 0
 OneFooter = (bytes : List ℕ) (f g : Footer) → IsWritable f → IsWritable g → Spells bytes (footer_value f) → Spells bytes (footer_value g) → f ≡ g
+
+-- a file has one body and one footer
+same_file : OneFooter → (bytes body more : List ℕ) (f g : Footer) → IsWritable f → IsWritable g → length (footer_bytes f) < 2 ^ 32 → length (footer_bytes g) < 2 ^ 32
+    → bytes ≡ framed body (footer_bytes f) → bytes ≡ framed more (footer_bytes g) → (body ≡ more) × (f ≡ g)
+same_file one_footer bytes body more f g writable writable' short short' whole whole' =
+    let parts = framed_once body more (footer_bytes f) (footer_bytes g) short short' (sym whole ∙ whole') in (
+      parts.0,
+      one_footer (footer_bytes f) f g writable writable' (footer_spelled f writable short)
+          (subst (λ (xs : List ℕ). Spells xs (footer_value g)) (sym parts.1) (footer_spelled g writable' short')),
+    )
 
 abbrev first_size : List Chunk → ℕ
 first_size [] = 0
@@ -63,73 +71,50 @@ placed_once at (x ∷ xs) (y ∷ ys) places e =
     let others = placed_once (at + length x) xs ys behind parts.1 in
     λ i. parts.0 i ∷ others i
 
--- the cells of these columns fit their lengths
-abbrev AllFit : List Numbered → List Column → Type 0
-AllFit rows [] = Unit {0}
-AllFit rows (c ∷ cs) = All Fits (cells_of c rows) × AllFit rows cs
+chunk_fit : (rows : List Numbered) (c : Column) (x : List ℕ) → IsChunkOf rows c x → All Fits (cells_of c rows)
+chunk_fit rows c x is = chunk_fits (kind_of c) (is_required c) (cells_of c rows) x is.chunk
 
-all_fit : (rows : List Numbered) (cs : List Column) (chunks : List (List ℕ)) → AllZip (IsChunkOf rows) cs chunks → AllFit rows cs
-all_fit rows [] chunks h = tt
-all_fit rows (c ∷ cs) [] h = absurd h
-all_fit rows (c ∷ cs) (x ∷ xs) h = (chunk_fits (kind_of c) (is_required c) (cells_of c rows) x h.0.chunk, all_fit rows cs xs h.1)
-
-all_same : OnePage → (rows others : List Numbered) → length rows ≡ length others → (cs : List Column) (chunks : List (List ℕ)) → AllZip (IsChunkOf rows) cs chunks → AllZip (IsChunkOf others) cs chunks → AllSame rows others cs
-all_same one_page rows others len [] chunks h g = tt
-all_same one_page rows others len (c ∷ cs) [] h g = absurd h
-all_same one_page rows others len (c ∷ cs) (x ∷ xs) h g = (
-  one_cells one_page (kind_of c) (is_required c) (cells_of c rows) (cells_of c others) x (cells_length c rows ∙ len ∙ sym (cells_length c others)) h.0.chunk g.0.chunk,
-  all_same one_page rows others len cs xs h.1 g.1,
-)
-
--- rows with the same chunks
-same_from : OnePage → (rows others : List Numbered) (chunks : List (List ℕ)) → length rows ≡ length others → map file_column (columns_of rows) ≡ map file_column (columns_of others)
-    → AllZip (IsChunkOf rows) (columns_of rows) chunks → AllZip (IsChunkOf others) (columns_of others) chunks → rows ≡ others
-same_from one_page rows others chunks len columns h g =
-    let here : AllZip (IsChunkOf others) (columns_of rows) chunks = subst (λ (cs : List Column). AllZip (IsChunkOf others) cs chunks) (sym (same_columns rows others columns)) g in
-    same_rows rows others len columns
-    (all_same one_page rows others len (columns_of rows) chunks h here)
-    (all_fit rows (columns_of rows) chunks h).1.1.1.1.1.1.1.0
-    (all_fit others (columns_of others) chunks g).1.1.1.1.1.1.1.0
-
--- the parts of a footer that tell the table
-record SameFooter (rows others : List Numbered) (xs ys : List (List ℕ)) : Type 0 where
-  counts : length rows ≡ length others
-  columns : map file_column (columns_of rows) ≡ map file_column (columns_of others)
-  places : (if length rows == 0 then [] else places_from (length magic) xs) ≡ (if length others == 0 then [] else places_from (length magic) ys)
-
-none : {X : Type 0} (xs : List X) → (length xs == 0) ≡ true → xs ≡ []
-none [] e = refl
-none (x ∷ xs) e = absurd (search (rules, e))
-
-rows_by : OnePage → (rows others : List Numbered) (xs ys : List (List ℕ)) (empty : Bool) → (length rows == 0) ≡ empty → SameFooter rows others xs ys → concat xs ≡ concat ys
-    → AllZip (IsChunkOf rows) (columns_of rows) xs → AllZip (IsChunkOf others) (columns_of others) ys → rows ≡ others
-rows_by one_page rows others xs ys true e same whole h g =
-    none rows e ∙ sym (none others (ap (λ (n : ℕ). n == 0) (sym same.counts) ∙ e))
-rows_by one_page rows others xs ys false e same whole h g =
-    let e' : (length others == 0) ≡ false = ap (λ (n : ℕ). n == 0) (sym same.counts) ∙ e in
-    let places : places_from (length magic) xs ≡ places_from (length magic) ys =
-    ap (λ (b : Bool). if b then [] else places_from (length magic) xs) (sym e) ∙ same.places ∙ ap (λ (b : Bool). if b then [] else places_from (length magic) ys) e' in
-    let chunks : xs ≡ ys = placed_once (length magic) xs ys places whole in
-    same_from one_page rows others xs same.counts same.columns h (subst (λ (zs : List (List ℕ)). AllZip (IsChunkOf others) (columns_of others) zs) (sym chunks) g)
+chunk_tells : OnePage → (rows others : List Numbered) (c : Column) (x : List ℕ) → length (cells_of c rows) ≡ length (cells_of c others) → IsChunkOf rows c x → IsChunkOf others c x → cells_of c rows ≡ cells_of c others
+chunk_tells one_page rows others c x len p q = one_cells one_page (kind_of c) (is_required c) (cells_of c rows) (cells_of c others) x len p.chunk q.chunk
 
 one_plain : OnePage → OneFooter → (bytes : List ℕ) (rows others : List Numbered) (lo hi low high : ℕ) → IsPlainFileOf bytes rows lo hi → IsPlainFileOf bytes others low high → (rows ≡ others) × (lo ≡ low) × (hi ≡ high)
 one_plain one_page one_footer bytes rows others lo hi low high p q =
-    let f : Footer = footer_of rows lo hi p.chunks in
-    let g : Footer = footer_of others low high q.chunks in
-    let parts = framed_once (concat p.chunks) (concat q.chunks) (footer_bytes f) (footer_bytes g) p.short q.short (sym p.whole ∙ q.whole) in
-    let same : f ≡ g = one_footer (footer_bytes f) f g p.writable q.writable (footer_spelled f p.writable p.short)
-    (subst (λ (xs : List ℕ). Spells xs (footer_value g)) (sym parts.1) (footer_spelled g q.writable q.short)) in (
-      rows_by one_page rows others p.chunks q.chunks (length rows == 0) refl
+    let parts = same_file one_footer bytes (concat p.chunks) (concat q.chunks) (footer_of rows lo hi p.chunks) (footer_of others low high q.chunks) p.writable q.writable p.short q.short p.whole q.whole in
+    let same = parts.1 in (
+      rows_by IsChunkOf chunk_fit (chunk_tells one_page) (places_from (length magic)) concat (placed_once (length magic)) rows others p.chunks q.chunks (length rows == 0) refl
           (record { counts = ap (λ (h : Footer). h.rows) same; columns = ap (λ (h : Footer). h.columns) same; places = ap (λ (h : Footer). h.chunks) same })
           parts.0 p.spelled q.spelled,
       ap (λ (h : Footer). h.lo) same,
       ap (λ (h : Footer). h.hi) same,
     )
 
-pub one_table : OnePage → OneFooter → (pages kinds : Pages) (bytes : List ℕ) (rows others : List Numbered) (lo hi low high : ℕ) → IsFileOf pages bytes rows lo hi → IsFileOf kinds bytes others low high
+one_coded : OnePage → OneDictionary → OneCodePage → OneFooter → (bytes : List ℕ) (rows others : List Numbered) (lo hi low high : ℕ) → IsDictFileOf bytes rows lo hi → IsDictFileOf bytes others low high → (rows ≡ others) × (lo ≡ low) × (hi ≡ high)
+one_coded one_page one_dictionary one_code_page one_footer bytes rows others lo hi low high p q =
+    let parts = same_file one_footer bytes (flat_map piece_bytes p.chunks) (flat_map piece_bytes q.chunks) (coded_footer rows lo hi p.chunks) (coded_footer others low high q.chunks) p.writable q.writable p.short q.short p.whole q.whole in
+    let same = parts.1 in (
+      rows_by IsCodedChunkOf pieces_fit (pieces_tell one_page one_dictionary one_code_page) (pieces_from (length magic)) (flat_map piece_bytes) (pieces_once (length magic)) rows others p.chunks q.chunks (length rows == 0) refl
+          (record { counts = ap (λ (h : Footer). h.rows) same; columns = ap (λ (h : Footer). h.columns) same; places = ap (λ (h : Footer). h.chunks) same })
+          parts.0 p.spelled q.spelled,
+      ap (λ (h : Footer). h.lo) same,
+      ap (λ (h : Footer). h.hi) same,
+    )
+
+-- no file is of both kinds
+one_kind : OneFooter → (bytes : List ℕ) (rows others : List Numbered) (lo hi low high : ℕ) → IsPlainFileOf bytes rows lo hi → IsDictFileOf bytes others low high → ⊥
+one_kind one_footer bytes rows others lo hi low high p q =
+    let parts = same_file one_footer bytes (concat p.chunks) (flat_map piece_bytes q.chunks) (footer_of rows lo hi p.chunks) (coded_footer others low high q.chunks) p.writable q.writable p.short q.short p.whole q.whole in
+    let kinds : Plain ≡ Dict = ap (λ (h : Footer). h.pages) parts.1 in
+    absurd cc
+
+pub one_table : OnePage → OneDictionary → OneCodePage → OneFooter → (pages kinds : Pages) (bytes : List ℕ) (rows others : List Numbered) (lo hi low high : ℕ) → IsFileOf pages bytes rows lo hi → IsFileOf kinds bytes others low high
     → (pages ≡ kinds) × (rows ≡ others) × (lo ≡ low) × (hi ≡ high)
-one_table one_page one_footer Plain Plain bytes rows others lo hi low high p q =
+one_table one_page one_dictionary one_code_page one_footer Plain Plain bytes rows others lo hi low high p q =
     let same = one_plain one_page one_footer bytes rows others lo hi low high p q in
     (refl, same.0, same.1, same.2)
-one_table one_page one_footer Plain Dict bytes rows others lo hi low high p q = absurd q
-one_table one_page one_footer Dict kinds bytes rows others lo hi low high p q = absurd p
+one_table one_page one_dictionary one_code_page one_footer Dict Dict bytes rows others lo hi low high p q =
+    let same = one_coded one_page one_dictionary one_code_page one_footer bytes rows others lo hi low high p q in
+    (refl, same.0, same.1, same.2)
+one_table one_page one_dictionary one_code_page one_footer Plain Dict bytes rows others lo hi low high p q =
+    absurd (one_kind one_footer bytes rows others lo hi low high p q)
+one_table one_page one_dictionary one_code_page one_footer Dict Plain bytes rows others lo hi low high p q =
+    absurd (one_kind one_footer bytes others rows low high lo hi q p)

@@ -7,16 +7,20 @@ use Rattle.fd_pages.specs.declared.cell.Cell.{Cell}
 use Rattle.fd_pages.specs.Pages.{IsPage, AddsPage, max_rows}
 use Rattle.fd_parquet.specs.Columns.{kind_of, is_required, file_column, cells_of, HasText}
 
--- The bytes are the pages of the cells, where each page but the last has as many cells as a page may have.
-abbrev pub ArePages : CellKind → Bool → List (List Cell) → List Cell → List ℕ → Type 0
-ArePages kind required [] cells bytes = (cells ≡ []) × (bytes ≡ [])
-ArePages kind required (front ∷ pages) cells bytes =
+-- The bytes are the pages of the cells, each as `Is` says, and each page but the last has as many cells as a page may have.
+abbrev pub AreFilled : (List Cell → List ℕ → Type 0) → List (List Cell) → List Cell → List ℕ → Type 0
+AreFilled Is [] cells bytes = (cells ≡ []) × (bytes ≡ [])
+AreFilled Is (front ∷ pages) cells bytes =
     (behind : List Cell) × (page : List ℕ) × (rest : List ℕ)
     × (cells ≡ front ++ behind)
     × (bytes ≡ page ++ rest)
-    × IsPage kind required front page
+    × Is front page
     × (length front < max_rows → behind ≡ [])
-    × ArePages kind required pages behind rest
+    × AreFilled Is pages behind rest
+
+-- the same with pages of values
+abbrev pub ArePages : CellKind → Bool → List (List Cell) → List Cell → List ℕ → Type 0
+ArePages kind required pages cells bytes = AreFilled (IsPage kind required) pages cells bytes
 
 -- the bytes are the chunk of these cells
 pub record IsChunk (kind : CellKind) (required : Bool) (cells : List Cell) (bytes : List ℕ) : Type 0 where

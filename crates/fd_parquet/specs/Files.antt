@@ -1,9 +1,8 @@
 -- The file of a table (Apache Parquet, README.md, "File format").
-use Rattle.std.specs.Prelude.{◌≡◌, ℕ, ◌+◌, ◌<◌, ◌≤◌, ◌^◌, ◌==◌, if◌then◌else◌, List, [], ◌∷◌, ◌++◌, length, map, codes, All, sum_by, IsSorted}
+use Rattle.std.specs.Prelude.{◌≡◌, ℕ, ◌+◌, ◌<◌, ◌≤◌, ◌^◌, ◌==◌, if◌then◌else◌, List, [], ◌∷◌, ◌++◌, length, map, All, sum_by, IsSorted}
 use Rattle.fd_kinds.specs.Parts.{IsWithin}
 use Rattle.fd_kinds.specs.RowSize.{row_size}
 use Rattle.std.specs.List.{AllZip, concat}
-use Rattle.std.specs.Int.{w32, to_le_bytes}
 use Rattle.fd_kinds.specs.declared.row.Numbered.{Numbered}
 use Rattle.fd_column.specs.Cells.{Column, columns_of}
 use Rattle.fd_column.specs.Numbering.{numbered_cmp}
@@ -13,10 +12,9 @@ use Rattle.fd_footer.specs.declared.footer.Chunk.{Chunk}
 use Rattle.fd_footer.specs.declared.footer.Footer.{Footer}
 use Rattle.fd_footer.specs.Footers.{footer_bytes, IsWritable}
 use Rattle.fd_parquet.specs.Columns.{file_column}
+use Rattle.fd_parquet.specs.Coded.{IsDictFileOf}
+pub use Rattle.fd_parquet.specs.Framing.{magic, framed}
 use Rattle.fd_parquet.specs.Chunks.{IsChunkOf}
-
-abbrev pub magic : List ℕ
-magic = codes "PAR1"
 
 -- a chunk at a place, which has so many bytes
 abbrev pub chunk_at : ℕ → ℕ → Chunk
@@ -42,10 +40,6 @@ footer_at rows lo hi places = record {
 abbrev pub footer_of : List Numbered → ℕ → ℕ → List (List ℕ) → Footer
 footer_of rows lo hi chunks = footer_at rows lo hi (places_from (length magic) chunks)
 
--- the magic, the chunks, the footer, its length in four bytes with the lowest first, and the magic
-abbrev pub framed : List ℕ → List ℕ → List ℕ
-framed body footer = magic ++ (body ++ (footer ++ (to_le_bytes w32 (length footer) ++ magic)))
-
 -- The bytes are the file of these rows with each text in its place, whose numbers are in this range.
 pub record IsPlainFileOf (bytes : List ℕ) (rows : List Numbered) (lo hi : ℕ) : Type 0 where
   pub range : lo ≤ hi
@@ -58,10 +52,10 @@ pub record IsPlainFileOf (bytes : List ℕ) (rows : List Numbered) (lo hi : ℕ)
   pub short : length (footer_bytes (footer_of rows lo hi chunks)) < 2 ^ 32
   pub whole : bytes ≡ framed (concat chunks) (footer_bytes (footer_of rows lo hi chunks))
 
--- The same by the kind of the pages. No file has dictionaries yet.
+-- The same by the kind of the pages. No call writes or reads a file with dictionaries yet.
 abbrev pub IsFileOf : Pages → List ℕ → List Numbered → ℕ → ℕ → Type 0
 IsFileOf Plain bytes rows lo hi = IsPlainFileOf bytes rows lo hi
-IsFileOf Dict bytes rows lo hi = ⊥
+IsFileOf Dict bytes rows lo hi = IsDictFileOf bytes rows lo hi
 
 -- the chunks of these columns follow each other behind the magic, and stand in these places
 pub record HasChunks (rows : List Numbered) (columns : List Column) (bytes : List ℕ) (places : List Chunk) : Type 0 where

@@ -1,3 +1,5 @@
 pub mod Chunks
+pub mod Coded
 pub mod Columns
 pub mod Files
+pub mod Framing

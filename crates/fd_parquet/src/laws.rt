@@ -5,7 +5,7 @@ ghost use Rattle.fd_parquet.specs.Files.{IsFileOf};
 
 use fd_footer::one_footer;
 use fd_hybrid::one_spelling;
-use fd_pages::one_page;
+use fd_pages::{one_code_page, one_coding, one_dictionary, one_page};
 
 /// A table has one file for each range and each kind of pages.
 pub fn one_file()
@@ -13,6 +13,7 @@ pub fn one_file()
         → IsFileOf pages a rows lo hi → IsFileOf pages b rows lo hi → a ≡ b }
 {
     one_spelling();
+    one_coding();
 }
 
 /// No bytes are the files of two tables, nor of one table in two ranges or with pages of two kinds.
@@ -22,5 +23,7 @@ pub fn one_table()
         → (pages ≡ kinds) × (rows ≡ others) × (lo ≡ low) × (hi ≡ high) }
 {
     one_page();
+    one_dictionary();
+    one_code_page();
     one_footer();
 }
