@@ -1,7 +1,6 @@
 -- No page is that of two lists of cells, and none begins another.
-use Rattle.std.proofs.Common.{◌≡◌, ℕ, ◌^◌, ◌<◌, Bool, true, false, List, [], ◌++◌, length, map, take, replicate, Result, Ok, refl, sym, ap, subst, ◌∙◌, append_assoc, arith}
+use Rattle.std.proofs.Common.{◌≡◌, ℕ, ◌^◌, ◌<◌, Bool, true, false, List, [], ◌++◌, length, map, replicate, Result, Ok, refl, sym, ap, subst, ◌∙◌, arith}
 use Rattle.std.specs.List.{AllByRecursion}
-use Rattle.std.proofs.lemmas.List.{append_cancel_left, take_at}
 use Rattle.std.proofs.lemmas.List.Elements.{recursion_from_All}
 use Rattle.fd_thrift.specs.Values.{Value}
 use Rattle.fd_thrift.specs.Spelling.{Spells as Writes}
@@ -19,6 +18,7 @@ use Rattle.fd_pages.proofs.ValueLaws.{parts_within}
 use Rattle.fd_pages.proofs.CellLaws.{cells_again, weaker, all_there}
 use Rattle.fd_pages.proofs.Bodies.{split_is, read_is, optional_levels}
 use Rattle.fd_pages.proofs.HeaderLaws.{header_spells}
+use Rattle.fd_pages.proofs.Fronts.{same_front, same_body}
 
 -- ---- levels
 
@@ -85,13 +85,11 @@ pub one_page : OneSpelling → (kind : CellKind) (required : Bool) (cells others
 one_page one_spelling kind required cells others a b x y p q e =
     let header = header_bytes (length cells) (length p.body) in
     let header' = header_bytes (length others) (length q.body) in
-    let joined : header ++ (p.body ++ x) ≡ header' ++ (q.body ++ y) =
-    sym (append_assoc header p.body x) ∙ ap (λ t. t ++ x) (sym p.whole) ∙ e ∙ ap (λ t. t ++ y) q.whole ∙ append_assoc header' q.body y in
+    let joined = same_front header p.body a x header' q.body b y p.whole q.whole e in
     let headers = one_spelling header header' (p.body ++ x) (q.body ++ y) (page_header (length cells) (length p.body)) (page_header (length others) (length q.body))
     (header_spells (length cells) (length p.body) (omega (arith, p.few)) p.small) (header_spells (length others) (length q.body) (omega (arith, q.few)) q.small) joined in
     let sizes = header_is (length cells) (length p.body) (length others) (length q.body) headers.0 in
-    let rests : p.body ++ x ≡ q.body ++ y = append_cancel_left header (p.body ++ x) (q.body ++ y) (joined ∙ ap (λ h. h ++ (q.body ++ y)) (sym headers.1)) in
-    let body : p.body ≡ q.body = sym (take_at p.body x (length p.body) refl) ∙ ap (take (length p.body)) rests ∙ take_at q.body y (length p.body) (sym sizes.1) in
+    let body : p.body ≡ q.body = same_body header p.body x header' q.body y joined headers.1 sizes.1 in
     let same : cells ≡ others = one_body kind required cells others (length cells) p.body (omega (arith, p.few)) p.small
     (record { counted = refl; column = p.column; fit = p.fit }) (record { counted = sym sizes.0; column = q.column; fit = q.fit }) p.spelled (subst (IsBody required others) (sym body) q.spelled) in
     (same, p.whole ∙ ap (λ h. h ++ p.body) headers.1 ∙ ap (λ t. header' ++ t) body ∙ sym q.whole)
