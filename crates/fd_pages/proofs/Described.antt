@@ -1,5 +1,7 @@
--- A dictionary and a page with its indexes, byte by byte.
-use Rattle.std.proofs.Common.{ℕ, ◌<◌, ◌^◌, true, List, [], ◌∷◌, length, inl, refl, lit<, lit≤}
+-- A dictionary and a page with its indexes, byte by byte, and the same with a fault.
+use Rattle.std.proofs.Common.{◌≡◌, ℕ, ◌<◌, ◌^◌, Bool, true, List, [], ◌∷◌, ◌++◌, length, inl, refl, sym, ap, subst, ◌∙◌, append_assoc, arith, length-append, lit<, lit≤}
+use Rattle.std.specs.declared.cmp.Ordering.TheVariants.{Less, Greater}
+use Rattle.std.proofs.lemmas.List.{append-nil, append_cancel_left}
 use Rattle.std.specs.List.Sorted.{IsStrictlySortedBy}
 use Rattle.std.proofs.lemmas.List.Elements.{All-from_recursion}
 use Rattle.fd_hybrid.specs.Digits.{number, digits}
@@ -10,7 +12,11 @@ use Rattle.fd_pages.specs.declared.cell.CellKind.TheVariants.{Bytes as BytesKind
 use Rattle.fd_pages.specs.declared.cell.Cell.{Cell}
 use Rattle.fd_pages.specs.declared.cell.Cell.TheVariants.{Bytes}
 use Rattle.fd_pages.specs.Columns.{IsOfColumn}
+use Rattle.fd_pages.specs.Pages.{page_header_in}
 use Rattle.fd_pages.specs.Dictionaries.{dictionary_header_bytes, code_header_bytes, dictionary_body, AreRising, IsDictionary, AreIndexes, IsCodePage}
+use Rattle.fd_pages.proofs.OnePage.{OneSpelling}
+use Rattle.fd_pages.proofs.OneDictionary.{IsPageOf, page_of, one_page_of}
+use Rattle.fd_pages.proofs.OneCodePage.{header_spells, header_is}
 
 abbrev two_texts : List (List ℕ)
 two_texts = (97 ∷ []) ∷ (98 ∷ []) ∷ []
@@ -62,3 +68,44 @@ code_page = record {
   small = lit< tt;
   whole = refl;
 }
+
+-- ---- the same with a fault
+
+abbrev turned : List (List ℕ)
+turned = (98 ∷ []) ∷ (97 ∷ []) ∷ []
+
+falling : AreRising turned → ⊥
+unfolding IsStrictlySortedBy
+falling h = let e : Greater ≡ Less = h.0.0 in absurd cc
+
+abbrev exchanged_page : List ℕ
+exchanged_page = 21 ∷ 4 ∷ 21 ∷ 20 ∷ 21 ∷ 20 ∷ 76 ∷ 21 ∷ 4 ∷ 21 ∷ 0 ∷ 0 ∷ 0 ∷ 1 ∷ 0 ∷ 0 ∷ 0 ∷ 98 ∷ 1 ∷ 0 ∷ 0 ∷ 0 ∷ 97 ∷ []
+
+page_of_turned : IsPageOf turned exchanged_page
+unfolding dictionary_header_bytes dictionary_body varint
+page_of_turned = record { fit = (lit< tt, (lit< tt, tt)); few = lit< tt; small = lit< tt; whole = refl }
+
+-- exchanged texts are in no dictionary
+pub exchanged : OneSpelling → (texts : List (List ℕ)) (page rest : List ℕ) → page ++ rest ≡ exchanged_page → IsDictionary texts page → ⊥
+exchanged one_spelling texts page rest e is =
+    let same = one_page_of one_spelling texts turned page exchanged_page rest [] (page_of texts page is) page_of_turned (e ∙ sym (append-nil exchanged_page)) in
+    falling (subst (λ (ts : List (List ℕ)). AreRising ts) same.0 is.rising)
+
+abbrev cut_page : List ℕ
+cut_page = 21 ∷ 0 ∷ 21 ∷ 6 ∷ 21 ∷ 6 ∷ 44 ∷ 21 ∷ 6 ∷ 21 ∷ 16 ∷ 21 ∷ 6 ∷ 21 ∷ 6 ∷ 0 ∷ 0 ∷ 1 ∷ 3 ∷ []
+
+cut_parts : cut_page ≡ code_header_bytes 3 3 ++ (1 ∷ 3 ∷ [])
+unfolding code_header_bytes varint
+cut_parts = refl
+
+-- a page without its last byte is none
+pub cut : OneSpelling → (required : Bool) (texts : List (List ℕ)) (cells : List Cell) (page rest : List ℕ) → page ++ rest ≡ cut_page → IsCodePage required texts cells page → ⊥
+cut one_spelling required texts cells page rest e is =
+    let header = code_header_bytes (length cells) (length is.body) in
+    let joined : header ++ (is.body ++ rest) ≡ code_header_bytes 3 3 ++ (1 ∷ 3 ∷ []) =
+    sym (append_assoc header is.body rest) ∙ ap (λ t. t ++ rest) (sym is.whole) ∙ e ∙ cut_parts in
+    let headers = one_spelling header (code_header_bytes 3 3) (is.body ++ rest) (1 ∷ 3 ∷ []) (page_header_in 8 (length cells) (length is.body)) (page_header_in 8 3 3)
+    (header_spells (length cells) (length is.body) (omega (arith, is.few)) is.small) (header_spells 3 3 (omega arith) (omega arith)) joined in
+    let sizes = header_is (length cells) (length is.body) 3 3 headers.0 in
+    let rests : is.body ++ rest ≡ 1 ∷ 3 ∷ [] = append_cancel_left header (is.body ++ rest) (1 ∷ 3 ∷ []) (joined ∙ ap (λ h. h ++ (1 ∷ 3 ∷ [])) (sym headers.1)) in
+    omega (arith, sizes.1, ap length rests, length-append is.body rest)

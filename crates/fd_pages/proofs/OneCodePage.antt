@@ -164,11 +164,11 @@ one_body one_reading false texts cells others body counted few small column colu
 
 -- ---- pages
 
-header_spells : (count size : ℕ) → count < 2 ^ 31 → size < 2 ^ 31 → Writes (code_header_bytes count size) (page_header_in 8 count size)
+pub header_spells : (count size : ℕ) → count < 2 ^ 31 → size < 2 ^ 31 → Writes (code_header_bytes count size) (page_header_in 8 count size)
 unfolding code_header_bytes
 header_spells count size counted small = header_in_spells 8 count size (omega arith) counted small
 
-header_is : (count size count' size' : ℕ) → page_header_in 8 count size ≡ page_header_in 8 count' size' → (count ≡ count') × (size ≡ size')
+pub header_is : (count size count' size' : ℕ) → page_header_in 8 count size ≡ page_header_in 8 count' size' → (count ≡ count') × (size ≡ size')
 header_is count size count' size' e = (cc, cc)
 
 pub one_code_page : OneSpelling → OneReading → (required : Bool) (texts : List (List ℕ)) (cells others : List Cell) (a b x y : List ℕ)

@@ -38,13 +38,22 @@ one_texts (t ∷ ts) (u ∷ us) len fit fit' e =
     let behind = one_texts ts us (omega (arith, len)) fit.1 fit'.1 parts.1 in
     λ i. parts.0 i ∷ behind i
 
-one_body : (texts others : List (List ℕ)) (a b : List ℕ) → length texts ≡ length others → IsDictionary texts a → IsDictionary others b → dictionary_body texts ≡ dictionary_body others → texts ≡ others
-unfolding dictionary_body
-one_body texts others a b len p q e =
-    one_texts texts others len (recursion_from_All (λ text. length text < 2 ^ 32) texts p.fit) (recursion_from_All (λ text. length text < 2 ^ 32) others q.fit) e
+-- the page of a dictionary, in whatever order its texts stand
+pub record IsPageOf (texts : List (List ℕ)) (page : List ℕ) : Type 0 where
+  pub fit : AllByRecursion (λ text. length text < 2 ^ 32) texts
+  pub few : length texts < 2 ^ 31
+  pub small : length (dictionary_body texts) < 2 ^ 31
+  pub whole : page ≡ dictionary_header_bytes (length texts) (length (dictionary_body texts)) ++ dictionary_body texts
 
-pub one_dictionary : OneSpelling → (texts others : List (List ℕ)) (a b x y : List ℕ) → IsDictionary texts a → IsDictionary others b → a ++ x ≡ b ++ y → (texts ≡ others) × (a ≡ b)
-one_dictionary one_spelling texts others a b x y p q e =
+pub page_of : (texts : List (List ℕ)) (page : List ℕ) → IsDictionary texts page → IsPageOf texts page
+page_of texts page is = record { fit = recursion_from_All (λ text. length text < 2 ^ 32) texts is.fit; few = is.few; small = is.small; whole = is.whole }
+
+one_body : (texts others : List (List ℕ)) (a b : List ℕ) → length texts ≡ length others → IsPageOf texts a → IsPageOf others b → dictionary_body texts ≡ dictionary_body others → texts ≡ others
+unfolding dictionary_body
+one_body texts others a b len p q e = one_texts texts others len p.fit q.fit e
+
+pub one_page_of : OneSpelling → (texts others : List (List ℕ)) (a b x y : List ℕ) → IsPageOf texts a → IsPageOf others b → a ++ x ≡ b ++ y → (texts ≡ others) × (a ≡ b)
+one_page_of one_spelling texts others a b x y p q e =
     let body : List ℕ = dictionary_body texts in
     let body' : List ℕ = dictionary_body others in
     let header = dictionary_header_bytes (length texts) (length body) in
@@ -55,3 +64,6 @@ one_dictionary one_spelling texts others a b x y p q e =
     let sizes = header_is (length texts) (length body) (length others) (length body') headers.0 in
     let bodies = same_body header body x header' body' y joined headers.1 sizes.1 in
     (one_body texts others a b sizes.0 p q bodies, p.whole ∙ ap (λ h. h ++ body) headers.1 ∙ ap (λ t. header' ++ t) bodies ∙ sym q.whole)
+
+pub one_dictionary : OneSpelling → (texts others : List (List ℕ)) (a b x y : List ℕ) → IsDictionary texts a → IsDictionary others b → a ++ x ≡ b ++ y → (texts ≡ others) × (a ≡ b)
+one_dictionary one_spelling texts others a b x y p q e = one_page_of one_spelling texts others a b x y (page_of texts a p) (page_of others b q) e

@@ -32,7 +32,8 @@ pub fn one_dictionary()
     one_spelling();
 }
 
-/// No page with indexes of a dictionary's texts is that of two lists of cells, and none begins another.
+/// No page with indexes of a dictionary's texts is that of two lists of cells, and none begins
+/// another.
 pub fn one_code_page()
     ensures { (required : Bool) (texts : List (List ℕ)) (cells others : List Cell) (a b x y : List ℕ)
         → IsCodePage required texts cells a → IsCodePage required texts others b → a ++ x ≡ b ++ y → (cells ≡ others) × (a ≡ b) }
@@ -49,10 +50,24 @@ pub fn one_coding()
     fd_hybrid::one_spelling();
 }
 
-/// The dictionary of the texts `a` and `b`, and the page of the required texts `a`, `b`, `a` with its indexes, byte by byte.
+/// The dictionary of the texts `a` and `b`, and the page of the required texts `a`, `b`, `a` with
+/// its indexes, byte by byte.
 pub fn dictionaries_are_as_described()
     ensures dictionary { IsDictionary ((97 ∷ []) ∷ (98 ∷ []) ∷ [])
         (21 ∷ 4 ∷ 21 ∷ 20 ∷ 21 ∷ 20 ∷ 76 ∷ 21 ∷ 4 ∷ 21 ∷ 0 ∷ 0 ∷ 0 ∷ 1 ∷ 0 ∷ 0 ∷ 0 ∷ 97 ∷ 1 ∷ 0 ∷ 0 ∷ 0 ∷ 98 ∷ []) }
     ensures code_page { IsCodePage true ((97 ∷ []) ∷ (98 ∷ []) ∷ []) (Bytes (97 ∷ []) ∷ Bytes (98 ∷ []) ∷ Bytes (97 ∷ []) ∷ [])
         (21 ∷ 0 ∷ 21 ∷ 6 ∷ 21 ∷ 6 ∷ 44 ∷ 21 ∷ 6 ∷ 21 ∷ 16 ∷ 21 ∷ 6 ∷ 21 ∷ 6 ∷ 0 ∷ 0 ∷ 1 ∷ 3 ∷ 2 ∷ []) }
 {}
+
+/// The same bytes with a fault: with the two texts exchanged they begin with no dictionary, and
+/// without the last byte with no page.
+pub fn faulty_dictionaries_are_none()
+    ensures exchanged { (texts : List (List ℕ)) (page rest : List ℕ)
+        → page ++ rest ≡ 21 ∷ 4 ∷ 21 ∷ 20 ∷ 21 ∷ 20 ∷ 76 ∷ 21 ∷ 4 ∷ 21 ∷ 0 ∷ 0 ∷ 0 ∷ 1 ∷ 0 ∷ 0 ∷ 0 ∷ 98 ∷ 1 ∷ 0 ∷ 0 ∷ 0 ∷ 97 ∷ []
+        → ¬ IsDictionary texts page }
+    ensures cut { (required : Bool) (texts : List (List ℕ)) (cells : List Cell) (page rest : List ℕ)
+        → page ++ rest ≡ 21 ∷ 0 ∷ 21 ∷ 6 ∷ 21 ∷ 6 ∷ 44 ∷ 21 ∷ 6 ∷ 21 ∷ 16 ∷ 21 ∷ 6 ∷ 21 ∷ 6 ∷ 0 ∷ 0 ∷ 1 ∷ 3 ∷ []
+        → ¬ IsCodePage required texts cells page }
+{
+    one_spelling();
+}

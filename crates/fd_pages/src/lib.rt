@@ -18,8 +18,8 @@ mod writing;
 pub use cell::{Cell, CellKind, CellList, Cells};
 pub use fault::PageFault;
 pub use laws::{
-    dictionaries_are_as_described, levels_are_short, one_code_page, one_coding, one_dictionary,
-    one_page,
+    dictionaries_are_as_described, faulty_dictionaries_are_none, levels_are_short, one_code_page,
+    one_coding, one_dictionary, one_page,
 };
 pub use reading::read_page;
 pub use writing::write_page;

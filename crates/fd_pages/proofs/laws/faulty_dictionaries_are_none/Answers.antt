@@ -1,0 +1,5 @@
+use Rattle.fd_pages.proofs.Described.{exchanged, cut}
+use Rattle.fd_pages.proofs.laws.faulty_dictionaries_are_none.Goals as goal
+
+pub returns : goal.returns
+returns c = record { exchanged = exchanged c.one_spelling.ensures; cut = cut c.one_spelling.ensures }
