@@ -130,10 +130,24 @@ labels_there rows at within =
     let there = row_there rows at within in
     ap (option_map (λ n. n.row.labels)) there.1 ∙ ap (λ r. Some r.labels) (sym there.2)
 
-pub same_labels : (rows : List Numbered) (a b : ℕ) (r : Bool) → a < length rows → b < length rows → Decides r (labels_in rows a ≡ labels_in rows b) → r ≡ true → (row_at rows a).labels ≡ (row_at rows b).labels
-same_labels rows a b r ha hb decides is =
-    same_Some (row_at rows a).labels (row_at rows b).labels (sym (labels_there rows a ha) ∙ decides.0 is ∙ labels_there rows b hb)
+pub same_labels : (rows : List Numbered) (a b : ℕ) (r : Bool) → a < length rows → b < length rows → Decides r (labels_in rows a ≡ labels_in rows b) → Decides r ((row_at rows a).labels ≡ (row_at rows b).labels)
+same_labels rows a b r ha hb decides = (
+  λ is. same_Some (row_at rows a).labels (row_at rows b).labels (sym (labels_there rows a ha) ∙ decides.0 is ∙ labels_there rows b hb),
+  λ is. decides.1 (labels_there rows a ha ∙ ap Some is ∙ sym (labels_there rows b hb)),
+)
+
+names_there : (rows : List Numbered) (at : ℕ) → at < length rows → cell_in (column_texts rows 1) at ≡ Some (row_at rows at).name
+unfolding row_at
+names_there [] at h = absurd (omega arith)
+names_there (n ∷ ns) zero h = refl
+names_there (n ∷ ns) (suc at) h = names_there ns at (omega arith)
 
 pub same_name : (rows : List Numbered) (a b : ℕ) (r : Bool) → Decides r (cell_in (column_texts rows 1) a ≡ cell_in (column_texts rows 1) b) → r ≡ true → (row_at rows a).name ≡ (row_at rows b).name
 same_name rows a b r decides is =
     sym (name_read rows a) ∙ ap (λ o. unwrap_or o []) (decides.0 is) ∙ name_read rows b
+
+pub names_decided : (rows : List Numbered) (a b : ℕ) (r : Bool) → Decides r (cell_in (column_texts rows 1) a ≡ cell_in (column_texts rows 1) b) → a < length rows → b < length rows → Decides r ((row_at rows a).name ≡ (row_at rows b).name)
+names_decided rows a b r decides ha hb = (
+  λ is. same_name rows a b r decides is,
+  λ is. decides.1 (names_there rows a ha ∙ ap Some is ∙ sym (names_there rows b hb)),
+)

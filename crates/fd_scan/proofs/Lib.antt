@@ -5,6 +5,7 @@ pub mod Grouped
 pub mod Keeping
 pub mod Knowing
 pub mod LabelKeys
+pub mod LabelPlaces
 pub mod Looked
 pub mod Occurred
 pub mod Outcomes

@@ -1,9 +1,9 @@
 -- The labels that rows at places have, by the columns, are those of the rows.
-use Rattle.std.proofs.Common.{◌≡◌, ℕ, zero, suc, ◌+◌, ◌<◌, Bool, true, false, ◌||◌, cond, List, [], ◌∷◌, ◌++◌, map, length, get_or, take, refl, sym, ◌∙◌, ap, append-nil, append_assoc, slice_get, true≢false}
-use Rattle.std.proofs.lemmas.List.{take_more, map-append}
+use Rattle.std.proofs.Common.{◌≡◌, ℕ, zero, suc, ◌+◌, Bool, true, false, ◌||◌, cond, List, [], ◌∷◌, ◌++◌, map, take, refl, sym, ◌∙◌, ap, append-nil, append_assoc, slice_get, true≢false, arith}
+use Rattle.std.proofs.lemmas.List.{map-append}
 use Rattle.std.proofs.lemmas.List.Folds.{list_any-append}
 use Rattle.std.proofs.lemmas.Grind.{flat_map-append}
-use Rattle.std.specs.Prelude.{Option, Some, None, is_some, flat_map, All}
+use Rattle.std.specs.Prelude.{Option, Some, None, is_some, flat_map}
 use Rattle.std.specs.List.{list_any}
 use Rattle.std.specs.BTreeMap.{is_at}
 use Rattle.std.specs.Ordering.{is_eq}
@@ -17,9 +17,10 @@ use Rattle.fd_kinds.specs.Meaning.{distinct, label_names}
 use Rattle.fd_kinds.specs.Pairs.{text_cmp}
 use Rattle.fd_column.specs.Cells.{Column, label, pprof_label, column_name, columns_of, column_names, fixed_columns, names_in, series_pairs, pprof_pairs, column_texts}
 use Rattle.fd_scan.specs.Places.{row_at, rows_at, empty_row}
-use Rattle.fd_scan.specs.Occurring.{any_cell, label_of, occurs, where_occurs, where_found, column_label, column_labels}
-use Rattle.fd_scan.proofs.CellsRead.{label_cell_read, no_label}
-use Rattle.fd_kinds.proofs.Distinct.{any_distinct, distinct_present, sorted_distinct}
+use Rattle.fd_scan.specs.Occurring.{any_cell, label_of, label_at, occurs, where_there, where_occurs, where_found, column_label, column_labels}
+use Rattle.fd_scan.proofs.CellsRead.{label_cell_read}
+use Rattle.fd_scan.proofs.LabelPlaces.{label_there}
+use Rattle.fd_kinds.proofs.Distinct.{any_distinct, sorted_distinct}
 use Rattle.fd_scan.proofs.Grouped.{same_members}
 use Rattle.fd_scan.proofs.LabelKeys.{same_text}
 
@@ -168,37 +169,29 @@ names_more rows places before =
 -- ---- cells
 
 -- the cells of the label's column
-pub cells_occur : (rows : List Numbered) (column : ℕ) (name : List ℕ) (places : List ℕ) → slice_get (columns_of rows) column ≡ Some (label name) → any_cell (column_texts rows column) places ≡ occurs rows places name
+cells_occur : (rows : List Numbered) (column : ℕ) (name : List ℕ) (places : List ℕ) → slice_get (columns_of rows) column ≡ Some (label name) → any_cell (column_texts rows column) places ≡ occurs rows places name
 cells_occur rows column name [] is = refl
 cells_occur rows column name (p ∷ ps) is = λ i. is_some (label_cell_read rows column p name is i) || cells_occur rows column name ps is i
 
--- no row has the label
-pub none_occurs : (rows : List Numbered) (name : List ℕ) (places : List ℕ) → All (λ n. value_of n.row.labels.pairs name ≡ None) rows → false ≡ occurs rows places name
-none_occurs rows name [] none = refl
-none_occurs rows name (p ∷ ps) none = none_occurs rows name ps none ∙ ap (λ o. is_some o || occurs rows ps name) (sym (no_label rows p name none))
+-- a label that a cell of its column at the places has
+pub cells_found : (rows : List Numbered) (places : List ℕ) (column : ℕ) (name : List ℕ) → label_at (column_names rows) column ≡ Some name → where_there (column_texts rows column) places name ≡ where_found rows places (label_at (column_names rows) column)
+cells_found rows places column name is =
+    ap (λ b. cond b (name ∷ []) []) (cells_occur rows column name places (label_there rows column name is))
+    ∙ ap (where_found rows places) (sym is)
 
 -- ---- steps
 
--- a name that the set has
-pub occurs_known : (rows : List Numbered) (places : List ℕ) (keys items : List (List ℕ)) (name : List ℕ) → any name keys ≡ true → keys ≡ distinct text_cmp items → keys ≡ distinct text_cmp (items ++ where_occurs rows places name)
-occurs_known rows places keys items name there held = by (occurs rows places name)
-  where
-    by : (b : Bool) → keys ≡ distinct text_cmp (items ++ cond b (name ∷ []) [])
-    by true = held ∙ distinct_present nat_list_cmp_total items name (ap (any name) (sym held) ∙ there)
-    by false = held ∙ ap (distinct text_cmp) (sym (append-nil items))
-
--- a name that occurs, and one that does not
-pub occurs_there : (rows : List Numbered) (places : List ℕ) (name : List ℕ) → occurs rows places name ≡ true → where_occurs rows places name ≡ name ∷ []
-occurs_there rows places name is = ap (λ b. cond b (name ∷ []) []) is
-
-pub occurs_not : (rows : List Numbered) (places : List ℕ) (name : List ℕ) → occurs rows places name ≡ false → where_occurs rows places name ≡ []
-occurs_not rows places name is = ap (λ b. cond b (name ∷ []) []) is
+label_more : (rows : List Numbered) (places : List ℕ) (columns : List (List ℕ)) (i : ℕ) → column_labels rows places (take i columns) ++ where_found rows places (label_at columns i) ≡ column_labels rows places (take (suc i) columns)
+label_more rows places [] zero = refl
+label_more rows places [] (suc i) = refl
+label_more rows places (c ∷ cs) zero = sym (append-nil (column_label rows places c))
+label_more rows places (c ∷ cs) (suc i) =
+    append_assoc (column_label rows places c) (column_labels rows places (take i cs)) (where_found rows places (label_at cs i))
+    ∙ ap (λ l. column_label rows places c ++ l) (label_more rows places cs i)
 
 -- one more column
-pub labels_more : (rows : List Numbered) (places : List ℕ) (items columns : List (List ℕ)) (i : ℕ) (d : List ℕ) → i < length columns → d ≡ get_or columns i d → (items ++ column_labels rows places (take i columns)) ++ column_label rows places d ≡ items ++ column_labels rows places (take (i + 1) columns)
-labels_more rows places items columns i d within is =
-    append_assoc items (column_labels rows places (take i columns)) (column_label rows places d)
-    ∙ ap (λ l. items ++ l)
-    (ap (λ l. column_labels rows places (take i columns) ++ l) (sym (append-nil (column_label rows places d)))
-    ∙ sym (flat_map-append (column_label rows places) (take i columns) (d ∷ []))
-    ∙ ap (flat_map (column_label rows places)) (ap (λ c. take i columns ++ c ∷ []) is ∙ sym (take_more columns i d within)))
+pub labels_more : (rows : List Numbered) (places : List ℕ) (items columns : List (List ℕ)) (i : ℕ) → (items ++ column_labels rows places (take i columns)) ++ where_found rows places (label_at columns i) ≡ items ++ column_labels rows places (take (i + 1) columns)
+labels_more rows places items columns i =
+    let next : suc i ≡ i + 1 = omega arith in
+    append_assoc items (column_labels rows places (take i columns)) (where_found rows places (label_at columns i))
+    ∙ ap (λ l. items ++ l) (label_more rows places columns i ∙ ap (λ n. column_labels rows places (take n columns)) next)

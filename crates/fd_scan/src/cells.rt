@@ -1,4 +1,4 @@
-ghost use Rattle.std.specs.Prelude.{◌≡◌, ◌<◌, true, length, IfOk};
+ghost use Rattle.std.specs.Prelude.{◌≡◌, ◌<◌, true, length, IfOk, Decides};
 ghost use Rattle.fd_column.specs.Cells.{column_texts, is_text_column};
 ghost use Rattle.fd_scan.specs.Places.{row_at, text_of, has_text};
 
@@ -103,15 +103,16 @@ pub fn labels_at<C: Columns>(columns: &C, at: usize) -> Result<Labels, NoMemory>
 pub fn has_same_labels<C: Columns>(columns: &C, a: usize, b: usize) -> bool
     requires first { a < length (C.rows columns.now) }
     requires second { b < length (C.rows columns.now) }
-    ensures { result ≡ true → (row_at (C.rows columns.now) a).labels ≡ (row_at (C.rows columns.now) b).labels }
+    ensures { Decides result ((row_at (C.rows columns.now) a).labels ≡ (row_at (C.rows columns.now) b).labels) }
 {
     columns.same_labels(a, b)
 }
 
 /// Whether two rows have the same name.
-#[tactic(auto, using(crate::proofs::CellsRead::same_name))]
+#[tactic(auto, using(crate::proofs::CellsRead::same_name, crate::proofs::CellsRead::names_decided))]
 pub fn has_same_name<C: Columns>(columns: &C, a: usize, b: usize) -> bool
-    ensures { result ≡ true → (row_at (C.rows columns.now) a).name ≡ (row_at (C.rows columns.now) b).name }
+    ensures same { result ≡ true → (row_at (C.rows columns.now) a).name ≡ (row_at (C.rows columns.now) b).name }
+    ensures decided { a < length (C.rows columns.now) → b < length (C.rows columns.now) → Decides result ((row_at (C.rows columns.now) a).name ≡ (row_at (C.rows columns.now) b).name) }
 {
     text_column(columns, NAME).is_same(a, b)
 }

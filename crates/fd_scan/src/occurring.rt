@@ -3,8 +3,9 @@ ghost use Rattle.std.specs.Option.{option_copied};
 ghost use Rattle.fd_kinds.specs.declared.row.Row.{Row};
 ghost use Rattle.fd_kinds.specs.Meaning.{distinct, label_names};
 ghost use Rattle.fd_kinds.specs.Pairs.{text_cmp};
+ghost use Rattle.fd_column.specs.Cells.{column_names};
 ghost use Rattle.fd_column.specs.Dictionaries.{cell_in};
-ghost use Rattle.fd_scan.specs.Occurring.{any_cell, column_label, column_labels, label_of, occurs, where_occurs};
+ghost use Rattle.fd_scan.specs.Occurring.{any_cell, column_labels, label_at, label_of, where_found, where_there};
 ghost use Rattle.fd_scan.specs.Places.{rows_at};
 ghost use Rattle.fd_scan.specs.Undone.{undone};
 
@@ -41,58 +42,55 @@ fn any_cell(cells: &Dictionary, places: &[usize]) -> bool
     false
 }
 
-/// Whether one of the rows at the places has the label.
-fn occurs<C: Columns>(columns: &C, places: &[usize], name: &Text) -> bool
-    ensures { result ≡ occurs (C.rows columns.now) places.now name.now }
+/// The label of which the column at a place has the values; none where the column is of another
+/// kind.
+fn label_at<C: Columns>(columns: &C, column: usize) -> Option<&[u8]>
+    ensures { option_copied result ≡ label_at (column_names (C.rows columns.now)) column }
 {
-    match columns.label_column(name) {
-        Some(column) => {
-            let cells = text_column(columns, column);
-            any_cell(cells, places)
-        }
-        None => false,
+    match columns.names().get(column) {
+        Some(name) => label_of(name.as_bytes()),
+        None => None,
     }
 }
 
-/// Adds the name, where one of the rows at the places has the label.
-fn add_where_occurs<C: Columns>(
+/// Adds a copy of the name, where one of the cells at the places is there.
+fn add_where_there(
     names: &mut BTreeSet<Text>,
     noted: &mut Texts,
-    columns: &C,
+    cells: &Dictionary,
     places: &[usize],
-    name: &Text,
+    name: &[u8],
 ) -> Result<(), NoMemory>
     ensures ok { OnOk result (
         (items : List (List ℕ)) → names.old.keys ≡ distinct text_cmp items
-        → names.new.keys ≡ distinct text_cmp (items ++ where_occurs (C.rows columns.now) places.now name.now)) }
+        → names.new.keys ≡ distinct text_cmp (items ++ where_there cells.now places.now name.now)) }
     ensures undone { undone names.new.keys noted.new ≡ undone names.old.keys noted.old }
 {
-    if names.contains(name) {
-        return Ok(());
-    }
-    if occurs(columns, places, name) {
-        return add_noted(names, noted, name);
+    if any_cell(cells, places) {
+        let text = text_from(noted.allocator(), name)?;
+        return add_noted(names, noted, &text);
     }
     Ok(())
 }
 
-/// Adds the label of a column, where one of the rows at the places has it.
+/// Adds the label of the column at a place, where one of the rows at the places has it.
+#[tactic(auto, using(crate::proofs::LabelPlaces::label_texts))]
 fn add_column_label<C: Columns>(
     names: &mut BTreeSet<Text>,
     noted: &mut Texts,
     columns: &C,
     places: &[usize],
-    column: &Text,
+    column: usize,
 ) -> Result<(), NoMemory>
     ensures ok { OnOk result (
         (items : List (List ℕ)) → names.old.keys ≡ distinct text_cmp items
-        → names.new.keys ≡ distinct text_cmp (items ++ column_label (C.rows columns.now) places.now column.now)) }
+        → names.new.keys ≡ distinct text_cmp (items ++ where_found (C.rows columns.now) places.now (label_at (column_names (C.rows columns.now)) column))) }
     ensures undone { undone names.new.keys noted.new ≡ undone names.old.keys noted.old }
 {
-    match label_of(column.as_bytes()) {
-        Some(bytes) => {
-            let name = text_from(noted.allocator(), bytes)?;
-            add_where_occurs(names, noted, columns, places, &name)
+    match label_at(columns, column) {
+        Some(name) => {
+            let cells = text_column(columns, column);
+            add_where_there(names, noted, cells, places, name)
         }
         None => Ok(()),
     }
@@ -104,22 +102,21 @@ fn add_column_labels<C: Columns>(
     noted: &mut Texts,
     columns: &C,
     places: &[usize],
-    texts: &[Text],
 ) -> Result<(), NoMemory>
     ensures ok { OnOk result (
         (items : List (List ℕ)) → names.old.keys ≡ distinct text_cmp items
-        → names.new.keys ≡ distinct text_cmp (items ++ column_labels (C.rows columns.now) places.now texts.now)) }
+        → names.new.keys ≡ distinct text_cmp (items ++ column_labels (C.rows columns.now) places.now (column_names (C.rows columns.now)))) }
     ensures undone { undone names.new.keys noted.new ≡ undone names.old.keys noted.old }
 {
-    for column in texts {
+    for column in 0..columns.names().len() {
         add_column_label(names, noted, columns, places, column)?;
     }
     Ok(())
 }
 
 /// Adds the names of the labels of the rows at the places: all of them, or none where memory is
-/// wanting. Of a column of labels no more cells are read than to the first that is there, and none
-/// where the set has the name.
+/// wanting. Of a column of labels no more cells are read than to the first that is there, and its
+/// name is copied only where there is one.
 pub fn add_names_of<C: Columns>(
     alloc: Global,
     names: &mut BTreeSet<Text>,
@@ -132,8 +129,7 @@ pub fn add_names_of<C: Columns>(
     ensures err { OnErr result (names.new.keys ≡ names.old.keys) }
 {
     let mut noted = Items::new(alloc);
-    let texts = columns.names().as_slice();
-    match add_column_labels(names, &mut noted, columns, places, texts) {
+    match add_column_labels(names, &mut noted, columns, places) {
         Ok(()) => Ok(()),
         Err(refusal) => {
             take_out(names, noted);

@@ -39,20 +39,6 @@ impl<T: Ord + Drop> Recent<T> {
         Ok(())
     }
 
-    /// Adds the item, of which no copy is kept.
-    pub fn add_alone(&mut self, item: T) -> Result<(), NoMemory>
-        ensures ok { OnOk result (
-            (items : List T) → AreDistinct T.cmp self.old.found.keys self.old.last items
-            → AreDistinct T.cmp self.new.found.keys self.new.last (items ++ item ∷ [])) }
-        ensures err { OnErr result (
-            (items : List T) → AreDistinct T.cmp self.old.found.keys self.old.last items
-            → AreDistinct T.cmp self.new.found.keys self.new.last items) }
-    {
-        self.last = None;
-        self.found.insert(item)?;
-        Ok(())
-    }
-
     /// The items alone.
     pub fn into_set(self) -> BTreeSet<T>
         ensures { result.keys ≡ self.found.keys }
