@@ -99,7 +99,6 @@ pub fn labels_at<C: Columns>(columns: &C, at: usize) -> Result<Labels, NoMemory>
 }
 
 /// Whether the series of two rows have the same labels.
-#[tactic(auto, using(crate::proofs::CellsRead::same_labels))]
 pub fn has_same_labels<C: Columns>(columns: &C, a: usize, b: usize) -> bool
     requires first { a < length (C.rows columns.now) }
     requires second { b < length (C.rows columns.now) }
@@ -109,7 +108,7 @@ pub fn has_same_labels<C: Columns>(columns: &C, a: usize, b: usize) -> bool
 }
 
 /// Whether two rows have the same name.
-#[tactic(auto, using(crate::proofs::CellsRead::same_name, crate::proofs::CellsRead::names_decided))]
+#[tactic(auto, using(crate::proofs::CellsRead::same_name))]
 pub fn has_same_name<C: Columns>(columns: &C, a: usize, b: usize) -> bool
     ensures same { result ≡ true → (row_at (C.rows columns.now) a).name ≡ (row_at (C.rows columns.now) b).name }
     ensures decided { a < length (C.rows columns.now) → b < length (C.rows columns.now) → Decides result ((row_at (C.rows columns.now) a).name ≡ (row_at (C.rows columns.now) b).name) }

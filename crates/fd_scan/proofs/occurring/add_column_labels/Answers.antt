@@ -1,8 +1,7 @@
-use Rattle.std.proofs.Common.{◌∙◌, ap, ◌++◌, take}
+use Rattle.std.proofs.Common.{◌≡◌, ◌∙◌, List, ◌++◌, take, subst}
 use Rattle.fd_kinds.specs.declared.row.Numbered.{Numbered}
 use Rattle.fd_kinds.specs.Meaning.{distinct}
 use Rattle.fd_kinds.specs.Pairs.{text_cmp}
-use Rattle.std.proofs.Common.{List}
 use Rattle.fd_column.specs.Cells.{column_names}
 use Rattle.fd_scan.specs.Occurring.{column_labels}
 use Rattle.fd_scan.proofs.Occurred.{labels_more}
@@ -13,7 +12,7 @@ loop-column-preserved g c =
     let rows : List Numbered = g.C.Columns.rows c.args.columns.now in
     record {
       held = λ items before.
-          c.in_ok-add_column_label.ensures.ok (items ++ column_labels rows c.args.places.now (take c.loop-column.column (column_names rows))) (c.loop-column.invariant.held items before)
-          ∙ ap (distinct text_cmp) (labels_more rows c.args.places.now items (column_names rows) c.loop-column.column);
+          subst (λ l. c.add_column_label.new.names.keys ≡ distinct text_cmp l) (labels_more rows c.args.places.now items (column_names rows) c.loop-column.column)
+          (c.in_ok-add_column_label.ensures.ok (items ++ column_labels rows c.args.places.now (take c.loop-column.column (column_names rows))) (c.loop-column.invariant.held items before));
       kept = c.add_column_label.ensures.undone ∙ c.loop-column.invariant.kept;
     }
