@@ -25,3 +25,4 @@ pub use builder::PartBuilder;
 pub use columns::Columns;
 pub use dictionary::Dictionary;
 pub use part::ColumnPart;
+pub use stacks::{read_stack, text_of};

@@ -78,17 +78,17 @@ chunks_more rows k old new places place lt texts short names so_far adds is =
 pub chunks_all : (rows : List Numbered) (k : ℕ) (out : List ℕ) (places : List Chunk) → column_count rows ≤ k → HasChunks rows (take k (columns_of rows)) out places → HasChunks rows (columns_of rows) out places
 chunks_all rows k out places le has = subst (λ (cs : List Column). HasChunks rows cs out places) (columns_all rows k le) has
 
-total_is : (at : ℕ) (chunks : List (List ℕ)) → total_size (places_from at chunks) ≡ length (concat chunks)
+pub total_is : (at : ℕ) (chunks : List (List ℕ)) → total_size (places_from at chunks) ≡ length (concat chunks)
 total_is at [] = refl
 total_is at (x ∷ xs) = ap (λ n. length x + n) (total_is (at + length x) xs) ∙ sym (length-append x (concat xs))
 
-placed_all : (at : ℕ) (chunks : List (List ℕ)) → at + length (concat chunks) < 2 ^ 63 → All IsPlaced (places_from at chunks)
+pub placed_all : (at : ℕ) (chunks : List (List ℕ)) → at + length (concat chunks) < 2 ^ 63 → All IsPlaced (places_from at chunks)
 placed_all at [] few = All-nil IsPlaced
 placed_all at (x ∷ xs) few =
     let n : length (x ++ concat xs) ≡ length x + length (concat xs) = length-append x (concat xs) in
     All-cons IsPlaced _ _ (record { place = omega (arith, n, few); data_page = omega (arith, n, few) }) (placed_all (at + length x) xs (omega (arith, n, few)))
 
-places_length : (at : ℕ) (chunks : List (List ℕ)) → length (places_from at chunks) ≡ length chunks
+pub places_length : (at : ℕ) (chunks : List (List ℕ)) → length (places_from at chunks) ≡ length chunks
 places_length at [] = refl
 places_length at (x ∷ xs) = ap suc (places_length (at + length x) xs)
 

@@ -19,7 +19,7 @@ use Rattle.fd_parquet.proofs.OneChunk.{OneRuns, OnePage, one_chunk, one_cells, c
 use Rattle.fd_parquet.proofs.OneCoded.{OneDictionary, OneCodePage, OneCoding, one_pieces, pieces_tell, pieces_fit, pieces_once}
 use Rattle.fd_parquet.proofs.SameTable.{one_list, rows_by}
 use Rattle.fd_parquet.proofs.FramingLaws.{framed_once}
-use Rattle.fd_parquet.proofs.FooterFits.{footer_spelled}
+use Rattle.fd_parquet.proofs.FooterSpells.{footer_spelled}
 
 -- ---- one file
 
@@ -50,8 +50,8 @@ same_file : OneFooter → (bytes body more : List ℕ) (f g : Footer) → IsWrit
 same_file one_footer bytes body more f g writable writable' short short' whole whole' =
     let parts = framed_once body more (footer_bytes f) (footer_bytes g) short short' (sym whole ∙ whole') in (
       parts.0,
-      one_footer (footer_bytes f) f g writable writable' (footer_spelled f writable short)
-          (subst (λ (xs : List ℕ). Spells xs (footer_value g)) (sym parts.1) (footer_spelled g writable' short')),
+      one_footer (footer_bytes f) f g writable writable' (footer_spelled f writable (omega (arith, short)))
+          (subst (λ (xs : List ℕ). Spells xs (footer_value g)) (sym parts.1) (footer_spelled g writable' (omega (arith, short')))),
     )
 
 abbrev first_size : List Chunk → ℕ

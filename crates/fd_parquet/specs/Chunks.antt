@@ -48,3 +48,17 @@ pub record AddsChunkOf (rows : List Numbered) (c : Column) (old new : List ℕ) 
   pub chunk : List ℕ
   pub is : IsChunk (kind_of c) (is_required c) (cells_of c rows) chunk
   pub whole : new ≡ old ++ chunk
+
+-- some bytes in front are the page of so many cells, and this is the rest
+pub record BeginsPage (kind : CellKind) (required : Bool) (count : ℕ) (bytes : List ℕ) (cells : List Cell) (rest : List ℕ) : Type 0 where
+  pub front : List ℕ
+  pub whole : bytes ≡ front ++ rest
+  pub counted : length cells ≡ count
+  pub page : IsPage kind required cells front
+
+-- some bytes in front are the chunk of so many cells, and this is the rest
+pub record BeginsCells (kind : CellKind) (required : Bool) (count : ℕ) (bytes : List ℕ) (cells : List Cell) (rest : List ℕ) : Type 0 where
+  pub front : List ℕ
+  pub whole : bytes ≡ front ++ rest
+  pub counted : length cells ≡ count
+  pub chunk : IsChunk kind required cells front

@@ -1,6 +1,6 @@
 -- The file of a table (Apache Parquet, README.md, "File format").
 use Rattle.std.specs.Prelude.{◌≡◌, ℕ, ◌+◌, ◌<◌, ◌≤◌, ◌^◌, ◌==◌, if◌then◌else◌, List, [], ◌∷◌, ◌++◌, length, map, All, sum_by, IsSorted}
-use Rattle.fd_kinds.specs.Parts.{IsWithin}
+pub use Rattle.fd_kinds.specs.Parts.{IsWithin}
 use Rattle.fd_kinds.specs.RowSize.{row_size}
 use Rattle.std.specs.List.{AllZip, concat}
 use Rattle.fd_kinds.specs.declared.row.Numbered.{Numbered}

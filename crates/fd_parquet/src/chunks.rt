@@ -12,7 +12,7 @@ use fd_kinds::{Bytes, Items, NoMemory};
 use fd_pages::{CellKind, Cells, levels_are_short, write_page};
 
 /// How many rows a page has at most.
-const MAX_ROWS: usize = 1000;
+pub(crate) const MAX_ROWS: usize = 1000;
 
 #[tactic(auto, using(crate::proofs::ColumnLaws::kind_there))]
 /// What the cells of a column are.

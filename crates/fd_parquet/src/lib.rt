@@ -1,15 +1,26 @@
 //! The Apache Parquet file of a table of numbered rows (parquet-format, `README.md`, "File format"):
-//! one row group, and a chunk for each column, uncompressed. A table has one file for each range of
-//! numbers.
+//! one row group, and a chunk for each column, uncompressed. A table has one spelling, which is
+//! written and read.
 #![tactic(auto)]
 
 mod cells;
 mod chunks;
+mod columns;
+mod contents;
+mod fault;
 mod footers;
+mod framing;
+mod labels;
 mod laws;
+mod pages;
+mod reading;
+mod rows;
+mod same;
 #[cfg(test)]
 mod tests;
 mod writing;
 
+pub use fault::FileFault;
 pub use laws::{one_file, one_table};
+pub use reading::{FileTable, read_file};
 pub use writing::write_file;

@@ -2,10 +2,10 @@ ghost use Rattle.std.specs.Prelude.{◌≡◌, All, IfOk, length};
 ghost use Rattle.fd_kinds.specs.Parts.{IsWithin};
 ghost use Rattle.fd_parquet.specs.Files.{IsSmall};
 
-use crate::write_file;
-use fd_column::{ColumnPart, PartBuilder};
+use crate::{FileFault, FileTable, read_file, write_file};
+use fd_column::{ColumnPart, Columns, PartBuilder};
 use fd_kinds::{
-    Items, Labels, NoMemory, Numbered, Pair, Row, Stack, Text, compare_rows, row_bytes,
+    Bytes, Items, Labels, NoMemory, Numbered, Pair, Row, Stack, Text, compare_rows, row_bytes,
 };
 use std::alloc::Global;
 use std::cmp::Ordering;
@@ -171,4 +171,140 @@ fn a_table_is_written(rt: HostRuntime) -> Result<(), Fail> {
     let bytes = write_file(&table, 6, 9)?;
     assert!(rt; bytes.as_slice() == FILE.as_slice());
     Ok(())
+}
+
+/// The rows of the table of a file, written again.
+fn written_again(read: &FileTable) -> Result<Bytes, NoMemory> {
+    let mut size = 0u64;
+    for at in 0..read.table.len() {
+        let numbered = read.table.row(at)?;
+        size = size.saturating_add(row_bytes(&numbered.row));
+    }
+    if size >= 1 << 29 {
+        return Err(NoMemory);
+    }
+    write_file(&read.table, read.lo, read.hi)
+}
+
+#[test]
+fn a_file_is_read(rt: HostRuntime) -> Result<(), Fail> {
+    let alloc = rt.alloc();
+    let Ok(read) = read_file(alloc, &FILE) else {
+        assert!(rt; false);
+        return Ok(());
+    };
+    let expected = table(alloc)?;
+    assert_eq!(rt; read.lo, 6);
+    assert_eq!(rt; read.hi, 9);
+    assert_eq!(rt; read.table.len(), 2);
+    assert!(rt; read.table.row(0)? == expected.row(0)?);
+    assert!(rt; read.table.row(1)? == expected.row(1)?);
+    Ok(())
+}
+
+/// Whether the bytes are refused, or the file of another table.
+fn is_refused_or_another(alloc: Global, bytes: &[u8]) -> Result<bool, NoMemory> {
+    match read_file(alloc, bytes) {
+        Ok(read) => Ok(written_again(&read)?.as_slice() == bytes),
+        Err(FileFault::NoMemory) => Err(NoMemory),
+        Err(_) => Ok(true),
+    }
+}
+
+/// Whether the file with the lowest or the highest bit of a byte changed is refused, or the file of
+/// another table.
+fn is_exact_at(alloc: Global, at: usize) -> Result<bool, NoMemory> {
+    let mut bytes = FILE;
+    if at >= FILE.len() {
+        return Ok(false);
+    }
+    for change in [0x01, 0x80] {
+        bytes[at] = FILE[at] ^ change;
+        if !is_refused_or_another(alloc, bytes.as_slice())? {
+            return Ok(false);
+        }
+    }
+    Ok(true)
+}
+
+#[test]
+fn a_changed_byte_is_refused_or_spells_another_table(rt: HostRuntime) -> Result<(), Fail> {
+    let alloc = rt.alloc();
+    for at in 0..FILE.len() {
+        assert!(rt; is_exact_at(alloc, at)?, "{at}");
+    }
+    Ok(())
+}
+
+#[test]
+fn a_file_that_is_cut_is_refused(rt: HostRuntime) {
+    let alloc = rt.alloc();
+    for end in 0..FILE.len() {
+        assert!(rt;
+            read_file(alloc, &FILE[..end]).err() == Some(FileFault::Magic),
+            "{end}"
+        );
+    }
+}
+
+/// One byte of the file changed: its place, the byte, and the fault.
+const CHANGES: [(usize, u8, FileFault); 16] = [
+    // The magics.
+    (0, 0x51, FileFault::Magic),
+    (1157, 0x32, FileFault::Magic),
+    // The footer's length, and the kind of its first field.
+    (1150, 0xc8, FileFault::Footer),
+    (439, 0x16, FileFault::Footer),
+    // The key of an entry, and the kind of the pages.
+    (1128, 0x71, FileFault::Schema),
+    (1135, 0x71, FileFault::Schema),
+    // A count of -2 rows, and one of a single row.
+    (660, 0x03, FileFault::Page { column: 0 }),
+    (660, 0x02, FileFault::Page { column: 0 }),
+    // The kind of the first page, a text that is not UTF-8, and a level that is too wide.
+    (4, 0x16, FileFault::Page { column: 0 }),
+    (60, 0xff, FileFault::Page { column: 1 }),
+    (401, 0x07, FileFault::Page { column: 11 }),
+    // The range ends below its start, below a row's number, and starts above one.
+    (1116, 0x35, FileFault::Page { column: 13 }),
+    (1116, 0x36, FileFault::Page { column: 13 }),
+    (1124, 0x37, FileFault::Page { column: 13 }),
+    // Rows that are out of order, and the place of a chunk.
+    (226, 0x7f, FileFault::Page { column: 13 }),
+    (719, 0x89, FileFault::Page { column: 13 }),
+];
+
+/// Whether the file is refused so with these bytes at these places.
+fn is_refused(alloc: Global, changes: &[(usize, u8)], fault: FileFault) -> bool {
+    let mut bytes = FILE;
+    for (at, byte) in changes {
+        if *at >= FILE.len() {
+            return false;
+        }
+        bytes[*at] = *byte;
+    }
+    read_file(alloc, bytes.as_slice()).err() == Some(fault)
+}
+
+#[test]
+fn refusals_tell_what_is_wrong(rt: HostRuntime) {
+    let alloc = rt.alloc();
+    for (at, byte, fault) in CHANGES {
+        assert!(rt; is_refused(alloc, &[(at, byte)], fault), "{at}");
+    }
+}
+
+#[test]
+fn a_footer_with_other_lengths_of_chunks_is_refused(rt: HostRuntime) {
+    let alloc = rt.alloc();
+    // The chunk of the names is told to have a byte more, and the next one to begin later.
+    let changes = [
+        (711, 0x40),
+        (713, 0x40),
+        (719, 0x8a),
+        (746, 0x4c),
+        (748, 0x4c),
+        (750, 0x8a),
+    ];
+    assert!(rt; is_refused(alloc, &changes, FileFault::Page { column: 13 }));
 }

@@ -13,7 +13,7 @@ use fd_kinds::{Bytes, NoMemory};
 use std::alloc::Global;
 
 /// The bytes that each file begins and ends with.
-const MAGIC: &[u8; 4] = b"PAR1";
+pub(crate) const MAGIC: &[u8; 4] = b"PAR1";
 
 /// Adds a footer, its length in four bytes, and the magic. A footer of 2^32 bytes or more wants
 /// memory.

@@ -1,0 +1,29 @@
+use Rattle.std.proofs.Common.{◌≡◌, length, true, false, true≢false, sym, ◌∙◌}
+use Rattle.std.proofs.lemmas.Result.{IfOk-weaker}
+use Rattle.fd_parquet.proofs.ReadFiles.{places_count, places_fit, sizes_fit}
+use Rattle.fd_parquet.proofs.reading.fits_table.Goals as goal
+
+pub returns-then-not-has_cells : goal.returns-then-not-has_cells
+returns-then-not-has_cells c = (
+  (λ e. absurd (true≢false (sym e))),
+  (λ f. absurd (true≢false (sym (c.has_cells.ensures.1 f.each) ∙ c.if-not-has_cells.true))),
+)
+
+pub has_footer-requires-clause-chunks : goal.has_footer-requires-clause-chunks
+has_footer-requires-clause-chunks c = places_count c.args.told.now (length c.args.table.now) c.args.cells.now c.args.places c.args.table.now c.requires (c.has_cells.ensures.0 c.if-not-has_cells.false)
+
+pub has_footer-requires-clause-placed : goal.has_footer-requires-clause-placed
+has_footer-requires-clause-placed c = places_fit c.args.told.now (length c.args.table.now) c.args.cells.now c.args.places c.requires
+
+pub has_footer-requires-clause-small : goal.has_footer-requires-clause-small
+has_footer-requires-clause-small c = sizes_fit c.args.told.now (length c.args.table.now) c.args.cells.now c.args.places c.requires
+
+pub has_footer-requires-clause-rows : goal.has_footer-requires-clause-rows
+has_footer-requires-clause-rows c = c.requires.few
+
+pub returns : goal.returns
+returns c =
+    IfOk-weaker c.has_footer.result _ _ (λ b d. (
+      (λ t. record { each = c.has_cells.ensures.0 c.if-not-has_cells.false; names = c.utf8-2.ensures.names; footer_is = d.0 t }),
+      (λ f. d.1 f.footer_is),
+    )) c.has_footer.ensures

@@ -1,0 +1,81 @@
+-- The rows that cells tell, column by column.
+use Rattle.std.specs.Prelude.{◌≡◌, ℕ, ℤ, pos, ◌==◌, if◌then◌else◌, Bool, false, List, [], ◌∷◌, Option, Some, None, slice_get, unwrap_or, codes}
+use Rattle.std.specs.List.{cons_option}
+use Rattle.std.specs.Ordering.{is_lt}
+use Rattle.fd_kinds.specs.declared.kinds.Pair.{Pair}
+use Rattle.fd_kinds.specs.declared.labels.Labels.{Labels}
+use Rattle.fd_kinds.specs.declared.row.Row.{Row}
+use Rattle.fd_kinds.specs.declared.row.Numbered.{Numbered}
+use Rattle.fd_column.specs.Labelled.{labels_from}
+use Rattle.fd_column.specs.Numbering.{numbered_cmp}
+use Rattle.fd_column.specs.Stacks.{frames_of}
+use Rattle.fd_pages.specs.declared.cell.Cell.{Cell}
+use Rattle.fd_pages.specs.declared.cell.Cell.TheVariants.{Absent, Whole, Bytes}
+use Rattle.fd_footer.specs.declared.footer.Column.{Column}
+
+-- the cell of a row in a column, by their places
+abbrev pub cell_in : List (List Cell) → ℕ → ℕ → Option Cell
+cell_in cells column at = slice_get (unwrap_or (slice_get cells column) []) at
+
+-- its number, 0 where it has none
+abbrev pub number_of : Option Cell → ℤ
+number_of None = pos 0
+number_of (Some Absent) = pos 0
+number_of (Some (Whole n)) = n
+number_of (Some (Bytes bytes)) = pos 0
+
+-- its bytes, where it has some
+abbrev pub bytes_of : Option Cell → Option (List ℕ)
+bytes_of None = None
+bytes_of (Some Absent) = None
+bytes_of (Some (Whole n)) = None
+bytes_of (Some (Bytes bytes)) = Some bytes
+
+-- its text, which is empty where it has no bytes
+abbrev pub text_in : List (List Cell) → ℕ → ℕ → List ℕ
+text_in cells column at = unwrap_or (bytes_of (cell_in cells column at)) []
+
+-- what follows a prefix
+abbrev pub behind : List ℕ → List ℕ → Option (List ℕ)
+behind [] name = Some name
+behind (p ∷ prefix) [] = None
+behind (p ∷ prefix) (b ∷ name) = if p == b then behind prefix name else None
+
+-- a label's name and its value, where both are there
+abbrev pub pair_of : Option (List ℕ) → Option (List ℕ) → Option Pair
+pair_of None value = None
+pair_of (Some name) None = None
+pair_of (Some name) (Some value) = Some (record { name = name; value = value })
+
+-- the pairs of a row, from the columns whose names have this prefix and the lists of their cells
+abbrev pub pairs_in : List ℕ → List Column → List (List Cell) → ℕ → List Pair
+pairs_in prefix [] cells at = []
+pairs_in prefix (c ∷ columns) [] at = []
+pairs_in prefix (c ∷ columns) (list ∷ cells) at =
+    cons_option (pair_of (behind prefix c.name) (bytes_of (slice_get list at))) (pairs_in prefix columns cells at)
+
+-- the labels of a row; pairs that are out of order give none
+abbrev pub labels_in : List ℕ → List Column → List (List Cell) → ℕ → Labels
+labels_in prefix columns cells at = labels_from (pairs_in prefix columns cells at)
+
+-- the row at a place
+abbrev pub row_in : List Column → List (List Cell) → ℕ → Row
+row_in columns cells at = record {
+  name = text_in cells 1 at;
+  sample_type = text_in cells 2 at;
+  sample_unit = text_in cells 3 at;
+  period_type = text_in cells 4 at;
+  period_unit = text_in cells 5 at;
+  labels = labels_in (codes "labels.") columns cells at;
+  timestamp = number_of (cell_in cells 6 at);
+  stack = frames_of (text_in cells 7 at);
+  pprof_labels = labels_in (codes "pprof_labels.") columns cells at;
+  period = number_of (cell_in cells 8 at);
+  duration = number_of (cell_in cells 9 at);
+  value = number_of (cell_in cells 10 at);
+}
+
+-- a row that is not below the last one, if there is one
+abbrev pub MayFollow : Option Numbered → Numbered → Type 0
+MayFollow None row = Unit {0}
+MayFollow (Some last) row = is_lt (numbered_cmp row last) ≡ false

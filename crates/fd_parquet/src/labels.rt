@@ -1,0 +1,111 @@
+ghost use Rattle.std.specs.Prelude.{◌≡◌, ◌++◌, [], IfOk};
+ghost use Rattle.std.specs.Option.{option_copied};
+ghost use Rattle.std.specs.List.{cons_option};
+ghost use Rattle.fd_kinds.specs.Labels.{are_labels as are_labels_pairs, is_before as is_before_pairs};
+ghost use Rattle.fd_column.specs.Labelled.{labels_from};
+ghost use Rattle.fd_parquet.specs.Rows.{behind as behind_prefix, pair_of, pairs_in, labels_in};
+
+use crate::framing::behind;
+use crate::rows::bytes_at;
+use fd_column::text_of;
+use fd_footer::Column;
+use fd_kinds::{Items, Labels, NoMemory, Pair, Pairs, Text};
+use fd_pages::CellList;
+use std::alloc::Global;
+
+/// What follows a prefix in the name of a column.
+fn name_behind<'a>(prefix: &[u8], column: &'a Column) -> Option<&'a [u8]>
+    ensures { option_copied result ≡ behind_prefix prefix.now column.now.name }
+{
+    behind(column.name.as_bytes(), prefix)
+}
+
+/// The pairs and one more, where a name and a value are there.
+fn with_pair(
+    alloc: Global,
+    pairs: Pairs,
+    name: Option<&[u8]>,
+    value: Option<&[u8]>,
+) -> Result<Pairs, NoMemory>
+    ensures { IfOk result (λ more. more ≡ pairs ++ cons_option (pair_of (option_copied name.entry) (option_copied value.entry)) []) }
+{
+    let mut more = pairs;
+    if let Some(name) = name {
+        if let Some(value) = value {
+            more.push(Pair {
+                name: text_of(alloc, name)?,
+                value: text_of(alloc, value)?,
+            })?;
+        }
+    }
+    Ok(more)
+}
+
+/// The pairs of a row, from the columns whose names have this prefix.
+fn pairs_at(
+    alloc: Global,
+    columns: &[Column],
+    prefix: &[u8],
+    cells: &[CellList],
+    at: usize,
+) -> Result<Pairs, NoMemory>
+    ensures { IfOk result (λ pairs. pairs ≡ pairs_in prefix.now columns.now cells.now at) }
+{
+    let mut pairs = Items::new(alloc);
+    for (place, column) in columns.iter().enumerate() {
+        let name = name_behind(prefix, column);
+        pairs = with_pair(alloc, pairs, name, bytes_at(cells, place, at))?;
+    }
+    Ok(pairs)
+}
+
+/// Whether a name stands before the first of the pairs.
+fn is_before(name: &Text, pairs: &[Pair]) -> bool
+    ensures { result ≡ is_before_pairs name.now pairs.now }
+{
+    match pairs.first() {
+        Some(pair) => name.cmp(&pair.name).is_lt(),
+        None => true,
+    }
+}
+
+/// Whether the names rise strictly, and no value is empty.
+fn are_labels(pairs: &[Pair]) -> bool
+    ensures { result ≡ are_labels_pairs pairs.now }
+{
+    let mut rest = pairs;
+    while let Some((first, others)) = rest.split_first() {
+        if first.value.is_empty() || !is_before(&first.name, others) {
+            return false;
+        }
+        rest = others;
+    }
+    true
+}
+
+/// The labels of these pairs. Pairs that are out of order give none.
+#[tactic(auto, using(crate::proofs::PairLaws::labels_there, crate::proofs::PairLaws::no_labels))]
+fn labels_of(pairs: Pairs) -> Labels
+    ensures { result ≡ labels_from pairs }
+{
+    if are_labels(pairs.as_slice()) {
+        Labels { pairs }
+    } else {
+        Labels {
+            pairs: Items::new(pairs.allocator()),
+        }
+    }
+}
+
+/// The labels of a row whose columns have this prefix.
+pub(crate) fn labels_at(
+    alloc: Global,
+    columns: &[Column],
+    prefix: &[u8],
+    cells: &[CellList],
+    at: usize,
+) -> Result<Labels, NoMemory>
+    ensures { IfOk result (λ labels. labels ≡ labels_in prefix.now columns.now cells.now at) }
+{
+    Ok(labels_of(pairs_at(alloc, columns, prefix, cells, at)?))
+}

@@ -1,0 +1,198 @@
+ghost use Rattle.std.specs.Prelude.{◌≡◌, ◌<◌, ◌≤◌, ◌^◌, ◌++◌, ◌∷◌, [], ℕ, pos, List, Some, None, IfOk, IfSome, All, Decides, IsSorted, length, slice_get, ◌-◌};
+ghost use Rattle.std.specs.Option.{option_copied};
+ghost use Rattle.fd_kinds.specs.declared.row.Numbered.{Numbered as AnyRow};
+ghost use Rattle.fd_parquet.specs.Files.{IsWithin};
+ghost use Rattle.fd_parquet.specs.Refusals.{AreRows, HaveTexts, BuildsRows};
+ghost use Rattle.fd_parquet.specs.Rows.{cell_in, number_of, bytes_of, text_in, row_in, MayFollow};
+ghost use Rattle.fd_column.specs.Numbering.{numbered_cmp};
+ghost use Rattle.fd_column.specs.Stacks.{frames_of};
+
+use crate::labels::labels_at;
+use fd_column::{ColumnPart, read_stack, text_of};
+use fd_footer::Column;
+use fd_kinds::{Items, NoMemory, Numbered, NumberedRows, Row, Stack, Text, compare_rows};
+use fd_pages::{Cell, CellList};
+use std::alloc::Global;
+
+/// The cell of a row in a column, by their places.
+fn cell_at(cells: &[CellList], column: usize, at: usize) -> Option<&Cell>
+    ensures { option_copied result ≡ cell_in cells.now column at }
+{
+    cells.get(column)?.get(at)
+}
+
+/// The number of a cell, 0 where it has none.
+fn whole_at(cells: &[CellList], column: usize, at: usize) -> i64
+    ensures { result ≡ number_of (cell_in cells.now column at) }
+{
+    match cell_at(cells, column, at) {
+        Some(Cell::Whole(number)) => *number,
+        _ => 0,
+    }
+}
+
+/// The bytes of a cell, none where it has none.
+pub(crate) fn bytes_at(cells: &[CellList], column: usize, at: usize) -> Option<&[u8]>
+    ensures { option_copied result ≡ bytes_of (cell_in cells.now column at) }
+{
+    match cell_at(cells, column, at) {
+        Some(Cell::Bytes(bytes)) => Some(bytes.as_slice()),
+        _ => None,
+    }
+}
+
+/// The text of a cell, which is empty where it has none.
+fn text_at(alloc: Global, cells: &[CellList], column: usize, at: usize) -> Result<Text, NoMemory>
+    ensures { IfOk result (λ text. text ≡ text_in cells.now column at) }
+{
+    match bytes_at(cells, column, at) {
+        Some(bytes) => text_of(alloc, bytes),
+        None => Ok(Text::new(alloc)),
+    }
+}
+
+/// The stack of a row.
+fn stack_at(alloc: Global, cells: &[CellList], column: usize, at: usize) -> Result<Stack, NoMemory>
+    ensures { IfOk result (λ stack. stack ≡ frames_of (text_in cells.now column at)) }
+{
+    match bytes_at(cells, column, at) {
+        Some(bytes) => read_stack(alloc, bytes),
+        None => Ok(Items::new(alloc)),
+    }
+}
+
+/// The row at a place.
+fn row_at(alloc: Global, columns: &[Column], cells: &[CellList], at: usize) -> Result<Row, NoMemory>
+    ensures { IfOk result (λ row. row ≡ row_in columns.now cells.now at) }
+{
+    Ok(Row {
+        name: text_at(alloc, cells, 1, at)?,
+        sample_type: text_at(alloc, cells, 2, at)?,
+        sample_unit: text_at(alloc, cells, 3, at)?,
+        period_type: text_at(alloc, cells, 4, at)?,
+        period_unit: text_at(alloc, cells, 5, at)?,
+        labels: labels_at(alloc, columns, b"labels.", cells, at)?,
+        timestamp: whole_at(cells, 6, at),
+        stack: stack_at(alloc, cells, 7, at)?,
+        pprof_labels: labels_at(alloc, columns, b"pprof_labels.", cells, at)?,
+        period: whole_at(cells, 8, at),
+        duration: whole_at(cells, 9, at),
+        value: whole_at(cells, 10, at),
+    })
+}
+
+/// The number of a row's batch, none where it is out of the range.
+fn number_at(cells: &[CellList], at: usize, lo: u64, hi: u64) -> Option<u64>
+    ensures found { IfSome result (λ n. number_of (cell_in cells.now 0 at) ≡ pos n) }
+    ensures range { IfSome result (λ n. (lo ≤ n) × (n ≤ hi)) }
+    ensures only { (n : ℕ) → number_of (cell_in cells.now 0 at) ≡ pos n → lo ≤ n → n ≤ hi → result ≡ Some n }
+{
+    let Ok(number) = u64::try_from(whole_at(cells, 0, at)) else {
+        return None;
+    };
+    if number < lo || hi < number {
+        return None;
+    }
+    Some(number)
+}
+
+/// Whether a row may stand behind the last of these.
+fn is_in_order(rows: &[Numbered], next: &Numbered) -> bool
+    ensures { Decides result (MayFollow (slice_get rows.now (length rows.now - 1)) next.now) }
+{
+    if rows.is_empty() {
+        return true;
+    }
+    let last = &rows[rows.len() - 1];
+    compare_rows(&next.row, &last.row)
+        .then(next.number.cmp(&last.number))
+        .is_ge()
+}
+
+/// The row at a place with its number, none where that is out of the range.
+fn numbered_at(
+    alloc: Global,
+    columns: &[Column],
+    cells: &[CellList],
+    at: usize,
+    lo: u64,
+    hi: u64,
+) -> Result<Option<Numbered>, NoMemory>
+    ensures number { IfOk result (λ next. IfSome next (λ n. number_of (cell_in cells.now 0 at) ≡ pos n.number)) }
+    ensures within { IfOk result (λ next. IfSome next (IsWithin lo hi)) }
+    ensures row { IfOk result (λ next. IfSome next (λ n. n.row ≡ row_in columns.now cells.now at)) }
+    ensures none { IfOk result (λ next. next ≡ None → (n : ℕ) → number_of (cell_in cells.now 0 at) ≡ pos n → lo ≤ n → n ≤ hi → ⊥) }
+{
+    let Some(number) = number_at(cells, at, lo, hi) else {
+        return Ok(None);
+    };
+    let row = row_at(alloc, columns, cells, at)?;
+    Ok(Some(Numbered { number, row }))
+}
+
+/// The rows and one more, none where that may not stand behind them.
+fn with_next(rows: NumberedRows, next: Numbered) -> Result<Option<NumberedRows>, NoMemory>
+    ensures pushed { IfOk result (λ more. IfSome more (λ all. all ≡ rows ++ next ∷ [])) }
+    ensures follows { IfOk result (λ more. IfSome more (λ _. MayFollow (slice_get rows (length rows - 1)) next)) }
+    ensures none { IfOk result (λ more. more ≡ None → MayFollow (slice_get rows (length rows - 1)) next → ⊥) }
+{
+    if !is_in_order(rows.as_slice(), &next) {
+        return Ok(None);
+    }
+    let mut more = rows;
+    more.push(next)?;
+    Ok(Some(more))
+}
+
+/// The `count` rows with these cells, none where they are out of order or a number is out of the
+/// range.
+fn rows_in(
+    alloc: Global,
+    columns: &[Column],
+    cells: &[CellList],
+    count: usize,
+    lo: u64,
+    hi: u64,
+) -> Result<Option<NumberedRows>, NoMemory>
+    requires { HaveTexts columns.now cells.now }
+    ensures found { IfOk result (λ rows. IfSome rows (BuildsRows columns.now cells.now lo hi count)) }
+    ensures none { IfOk result (λ found. found ≡ None → (rows : List AnyRow) → length rows ≡ count → AreRows columns.now cells.now lo hi rows → ⊥) }
+{
+    let mut rows = Items::new(alloc);
+    for at in 0..count {
+        let Some(next) = numbered_at(alloc, columns, cells, at, lo, hi)? else {
+            return Ok(None);
+        };
+        let Some(more) = with_next(rows, next)? else {
+            return Ok(None);
+        };
+        rows = more;
+    }
+    Ok(Some(rows))
+}
+
+/// The part of `count` rows with these cells, none where they are out of order or a number is out
+/// of the range.
+pub(crate) fn part_of(
+    alloc: Global,
+    columns: &[Column],
+    cells: &[CellList],
+    count: usize,
+    lo: u64,
+    hi: u64,
+) -> Result<Option<ColumnPart>, NoMemory>
+    requires below { hi < 2 ^ 63 }
+    requires texts { HaveTexts columns.now cells.now }
+    ensures within { IfOk result (λ part. IfSome part (All (IsWithin lo hi))) }
+    ensures sorted { IfOk result (λ part. IfSome part (IsSorted numbered_cmp)) }
+    ensures counted { IfOk result (λ part. IfSome part (λ rows. length rows ≡ count)) }
+    // Rows that have these cells are found, unless memory runs out.
+    ensures only { (rows : List AnyRow) → length rows ≡ count → AreRows columns.now cells.now lo hi rows
+        → IfOk result (λ part. part ≡ Some rows) }
+{
+    let Some(rows) = rows_in(alloc, columns, cells, count, lo, hi)? else {
+        return Ok(None);
+    };
+    let part = ColumnPart::from_rows(alloc, &rows)?;
+    Ok(Some(part))
+}
