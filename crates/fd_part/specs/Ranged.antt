@@ -3,7 +3,7 @@ use Rattle.std.specs.Prelude.{◌≡◌, ℕ, ◌≤◌, true, List, All}
 use Rattle.fd_kinds.specs.declared.row.Numbered.{Numbered}
 use Rattle.fd_kinds.specs.Parts.{PartMeaning, IsPart, IsWithin, held_bytes}
 use Rattle.fd_footer.specs.declared.footer.Pages.TheVariants.{Plain}
-use Rattle.fd_parquet.specs.Files.{IsFileOf}
+use Rattle.fd_parquet.specs.Files.{IsFileOf, IsPlainFileOf}
 
 -- numbered rows, and the range in which their numbers lie
 pub record Ranged : Type 0 where
@@ -25,3 +25,7 @@ sealed_of ranged = sealed_part ranged.lo ranged.hi ranged.rows
 
 pub sealed_part_is_part : (lo hi : ℕ) (rows : List Numbered) → lo ≤ hi → All (IsWithin lo hi) rows → IsPart (sealed_part lo hi rows)
 sealed_part_is_part lo hi rows ordered within = record { ordered = ordered; within = within; one_number = λ h. cc }
+
+-- the rows of a file lie in its range
+pub file_is_part : (file : List ℕ) (rows : List Numbered) (lo hi : ℕ) → IsPlainFileOf file rows lo hi → IsPart (sealed_part lo hi rows)
+file_is_part file rows lo hi is = sealed_part_is_part lo hi rows is.range is.within

@@ -1,12 +1,15 @@
-ghost use Rattle.std.specs.Prelude.{◌≡◌, ◌≤◌, ◌<◌, ◌+◌, ◌^◌, take, length, All, IfOk};
+ghost use Rattle.std.specs.Prelude.{◌≡◌, ◌≢◌, ◌≤◌, ◌<◌, ◌+◌, ◌^◌, ℕ, List, take, length, All, IfOk, IfErr};
+ghost use Rattle.fd_kinds.specs.declared.row.Numbered.{Numbered};
 ghost use Rattle.fd_kinds.specs.Parts.{IsWithin, held_bytes};
 ghost use Rattle.fd_footer.specs.declared.footer.Pages.TheVariants.{Plain};
 ghost use Rattle.fd_parquet.specs.Files.{IsSmall, IsFileOf};
+ghost use Rattle.fd_parquet.specs.Refusals.{Refuses, IsRefused, Gives};
+ghost use Rattle.fd_parquet.specs.declared.fault.FileFault.{FileFault as AnyFault};
 ghost use Rattle.fd_part.specs.Ranged.{sealed_of, sealed_part};
 
 use fd_column::{ColumnPart, Columns};
 use fd_kinds::{Bytes, NoMemory, row_bytes};
-use fd_parquet::write_file;
+use fd_parquet::{FileFault, FileTable, read_file, write_file};
 use std::marker::Model;
 use std::sync::Arc;
 
@@ -54,6 +57,22 @@ fn sum_of(table: &ColumnPart) -> Result<u64, NoMemory>
     Ok(sum)
 }
 
+/// The rows with their file, neither of which is copied.
+fn with_file(columns: ColumnPart, lo: u64, hi: u64, file: Bytes) -> Result<Filed, NoMemory>
+    requires { IsFileOf Plain file columns lo hi }
+    ensures { IfOk result (λ filed. sealed_of filed ≡ sealed_part lo hi columns) }
+{
+    let bytes = sum_of(&columns)?;
+    let file = Arc::new(file.allocator(), file)?;
+    Ok(Filed {
+        lo,
+        hi,
+        columns,
+        bytes,
+        file,
+    })
+}
+
 impl Filed {
     /// The rows of a table, whose numbers lie from `lo` to `hi`. The table is not copied.
     pub fn of(table: &ColumnPart, lo: u64, hi: u64) -> Result<Filed, NoMemory>
@@ -64,16 +83,22 @@ impl Filed {
         ensures { IfOk result (λ filed. sealed_of filed ≡ sealed_part lo hi table.now) }
     {
         let file = write_file(table, lo, hi)?;
-        let bytes = sum_of(table)?;
         let columns = table.share()?;
-        let file = Arc::new(file.allocator(), file)?;
-        Ok(Filed {
-            lo,
-            hi,
-            columns,
-            bytes,
-            file,
-        })
+        with_file(columns, lo, hi, file)
+    }
+
+    /// The rows of a file, which is kept and not copied.
+    pub fn opened(file: Bytes) -> Result<Filed, FileFault>
+        ensures found { IfOk result (λ filed. IsFileOf Plain file filed.rows filed.lo filed.hi) }
+        ensures only { (rows : List Numbered) (lo hi : ℕ) → IsFileOf Plain file rows lo hi → Gives sealed_of result (sealed_part lo hi rows) }
+        ensures refused { IfErr result (λ fault. fault ≢ FileFault.NoMemory → Refuses file fault) }
+        ensures refused_only { (fault : AnyFault) → Refuses file fault → IsRefused fault result }
+    {
+        let FileTable { table, lo, hi } = match read_file(file.allocator(), file.as_slice()) {
+            Ok(read) => read,
+            Err(fault) => return Err(fault),
+        };
+        Ok(with_file(table, lo, hi, file)?)
     }
 
     /// The least number of the range.

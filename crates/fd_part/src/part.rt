@@ -1,14 +1,18 @@
-ghost use Rattle.std.specs.Prelude.{◌≡◌, ◌≤◌, ◌<◌, ◌^◌, All, is_some, IfOk, IfSome};
+ghost use Rattle.std.specs.Prelude.{◌≡◌, ◌≢◌, ◌≤◌, ◌<◌, ◌^◌, ℕ, true, List, All, is_some, IfOk, IfErr, IfSome};
+ghost use Rattle.fd_kinds.specs.declared.row.Numbered.{Numbered};
 ghost use Rattle.fd_kinds.specs.Parts.{IsWithin, loose_part, rows_of};
 ghost use Rattle.fd_footer.specs.declared.footer.Pages.TheVariants.{Plain};
 ghost use Rattle.fd_parquet.specs.Files.{IsSmall, IsFileOf};
+ghost use Rattle.fd_parquet.specs.Refusals.{Refuses, IsRefused, Gives};
+ghost use Rattle.fd_parquet.specs.declared.fault.FileFault.{FileFault as AnyFault};
 ghost use Rattle.fd_part.specs.Parts.{part_meaning};
 ghost use Rattle.fd_part.specs.Ranged.{sealed_part};
 
 use crate::columned::Columned;
 use crate::sealed::Sealed;
 use fd_column::{ColumnPart, Columns};
-use fd_kinds::{Batch, Held, NoMemory};
+use fd_kinds::{Batch, Bytes, Held, NoMemory};
+use fd_parquet::FileFault;
 
 /// How a part keeps its rows.
 #[derive(Debug, Drop)]
@@ -53,6 +57,28 @@ impl Part {
         Ok(Part {
             form: Form::Filed(sealed),
         })
+    }
+
+    /// The sealed part of the file of a table (parquet-format, `README.md`, "File format"), as `seal`
+    /// makes it. The bytes are kept and not copied. Other bytes are refused: `Magic` where they have
+    /// not the magic at both ends, `Footer` where no footer stands there, `Schema` where its columns or
+    /// entries are none of a table's, and `Page` with the first column whose bytes are not its cells,
+    /// or with the number of columns where all are and yet the file is that of no table.
+    pub fn opened(file: Bytes) -> Result<Part, FileFault>
+        // What is opened is sealed, and has this file.
+        ensures found { IfOk result (λ part. ((part_meaning part).sealed ≡ true) × IsFileOf Plain file (part_meaning part).rows (part_meaning part).lo (part_meaning part).hi) }
+        // Each file of a table is opened, unless memory runs out.
+        ensures only { (rows : List Numbered) (lo hi : ℕ) → IsFileOf Plain file rows lo hi → Gives part_meaning result (sealed_part lo hi rows) }
+        // Other bytes are refused by the one fault that is theirs, unless memory runs out.
+        ensures refused { IfErr result (λ fault. fault ≢ FileFault.NoMemory → Refuses file fault) }
+        ensures refused_only { (fault : AnyFault) → Refuses file fault → IsRefused fault result }
+    {
+        match Sealed::opened(file) {
+            Ok(sealed) => Ok(Part {
+                form: Form::Filed(sealed),
+            }),
+            Err(fault) => Err(fault),
+        }
     }
 
     /// The columns of the numbered rows, which cost no copy.

@@ -1,6 +1,7 @@
 use crate::Part;
-use fd_column::Columns;
-use fd_kinds::{Batch, Held, Items, Labels, NoMemory, Pair, Row, Stack, Text};
+use fd_column::{ColumnPart, Columns};
+use fd_kinds::{Batch, Bytes, Held, Items, Labels, NoMemory, Pair, Row, Stack, Text};
+use fd_parquet::FileFault;
 use std::alloc::Global;
 use std::test::Fail;
 
@@ -88,5 +89,67 @@ fn a_sealed_part_has_its_range_its_rows_and_a_file(rt: HostRuntime) -> Result<()
     assert_eq!(rt; (part.columns()?.len(), part.cells().len()), (2, 2));
     let file = part.file().ok_or("file")?;
     assert!(rt; file.starts_with(b"PAR1") && file.ends_with(b"PAR1"));
+    Ok(())
+}
+
+// Whether two tables have the same numbered rows.
+fn same_rows(one: &ColumnPart, other: &ColumnPart) -> Result<bool, NoMemory> {
+    if one.len() != other.len() {
+        return Ok(false);
+    }
+    for at in 0..one.len() {
+        if one.row(at)? != other.row(at)? {
+            return Ok(false);
+        }
+    }
+    Ok(true)
+}
+
+#[test]
+fn the_file_of_a_sealed_part_is_opened(rt: HostRuntime) -> Result<(), Fail> {
+    let alloc = rt.alloc();
+    let mut loose = Part::fresh(batch(alloc)?)?;
+    loose.number(9);
+    let part = sealed(&loose)?;
+    let file = part.file().ok_or("file")?;
+    let Ok(opened) = Part::opened(Bytes::from_slice(alloc, file)?) else {
+        assert!(rt; false);
+        return Ok(());
+    };
+    assert!(rt; opened.sealed());
+    assert_eq!(rt; (opened.lo(), opened.hi()), (9, 9));
+    assert_eq!(rt; (opened.rows(), opened.bytes()), (2, 2 * ROW));
+    assert!(rt; same_rows(&opened.columns()?, &loose.columns()?)?);
+    assert!(rt; opened.file().ok_or("file")? == file);
+    Ok(())
+}
+
+// The fault of the bytes with another one at a place, none where they are opened.
+fn refusal(
+    alloc: Global,
+    file: &[u8],
+    at: usize,
+    other: u8,
+) -> Result<Option<FileFault>, NoMemory> {
+    let mut bytes = Bytes::from_slice(alloc, file)?.into_vec();
+    if let Some(byte) = bytes.get_mut(at) {
+        *byte = other;
+    }
+    Ok(Part::opened(Bytes::from_vec(bytes)).err())
+}
+
+#[test]
+fn a_file_with_another_byte_is_refused(rt: HostRuntime) -> Result<(), Fail> {
+    let alloc = rt.alloc();
+    let part = sealed(&Part::fresh(batch(alloc)?)?)?;
+    let file = part.file().ok_or("file")?;
+    // The first magic, the header of the first page, and the highest byte of the footer's length.
+    let length = file.len().saturating_sub(5);
+    assert_eq!(rt; refusal(alloc, file, 0, b'Q')?, Some(FileFault::Magic));
+    assert_eq!(rt;
+        refusal(alloc, file, 4, 0)?,
+        Some(FileFault::Page { column: 0 })
+    );
+    assert_eq!(rt; refusal(alloc, file, length, 255)?, Some(FileFault::Footer));
     Ok(())
 }
