@@ -1,5 +1,5 @@
 -- The numbers and lengths of a footer fit 64 bits, so its bytes spell it.
-use Rattle.std.proofs.Common.{◌≡◌, ℕ, suc, ◌+◌, ◌<◌, ◌≤◌, ◌^◌, Bool, true, false, ℤ, pos, FitsSigned, w32, w64, List, [], ◌∷◌, ◌++◌, length, map, refl, sym, ap, ◌∙◌, subst, arith, codes, decimal, length-append, ◌==◌, if◌then◌else◌}
+use Rattle.std.proofs.Common.{◌≡◌, ℕ, suc, ◌+◌, ◌<◌, ◌≤◌, ◌^◌, Bool, true, false, pos, FitsSigned, w32, w64, List, [], ◌∷◌, ◌++◌, length, map, refl, ap, arith, length-append, ◌==◌, if◌then◌else◌}
 use Rattle.std.proofs.lemmas.Int.{fits_signed_from_abs}
 use Rattle.fd_thrift.specs.Values.{Value, whole32, whole64, binary, list, struct, Items, no_items, item, Fields, no_fields, field}
 use Rattle.fd_thrift.specs.View.{items_of}
@@ -10,8 +10,8 @@ use Rattle.fd_footer.specs.declared.footer.Column.{Column}
 use Rattle.fd_footer.specs.declared.footer.Chunk.{Chunk}
 use Rattle.fd_footer.specs.declared.footer.Pages.{Pages}
 use Rattle.fd_footer.specs.declared.footer.Footer.{Footer}
-use Rattle.fd_footer.specs.Tables.{type_number, repetition_number, column_value, schema_value, root_value, number_value, encodings, meta_value, chunk_value, chunk_values, group_value, has_dictionary, total_size}
-use Rattle.fd_footer.specs.Footers.{group_values, footer_value, footer_bytes, IsWritable, IsPlaced}
+use Rattle.fd_footer.specs.Tables.{type_number, repetition_number, column_value, root_value, number_value, encodings, meta_value, chunk_values, group_value, has_dictionary, total_size}
+use Rattle.fd_footer.specs.Footers.{footer_value, footer_bytes, IsWritable, IsPlaced}
 use Rattle.fd_footer.proofs.Legal.{footer_is_legal}
 use Rattle.std.specs.Prelude.{All}
 use Rattle.std.proofs.lemmas.List.Elements.{All-head, All-tail}

@@ -1,10 +1,10 @@
 -- The parts of a file: the magics at both ends, and between them the chunks, the footer and its length.
-use Rattle.std.proofs.Common.{◌≡◌, ℕ, ◌+◌, ◌-◌, ◌<◌, ◌≤◌, ◌^◌, List, [], ◌∷◌, ◌++◌, length, take, drop, refl, sym, ap, ◌∙◌, subst, append_assoc, arith, length-append, length-drop, take-append-drop}
+use Rattle.std.proofs.Common.{◌≡◌, ℕ, ◌+◌, ◌-◌, ◌<◌, ◌≤◌, ◌^◌, List, ◌++◌, length, take, drop, refl, sym, ap, ◌∙◌, append_assoc, arith, length-append, length-drop, take-append-drop}
 use Rattle.std.specs.Int.{w32, to_le_bytes, from_le_bytes}
 use Rattle.std.proofs.lemmas.Nat.{from_le_bytes-to_le_bytes_4}
 use Rattle.std.proofs.lemmas.List.{take_at, drop_at, take-append-le, append_cancel_left, append_cancel_right}
 use Rattle.std.proofs.lemmas.List.Prefix.{end_rest}
-use Rattle.fd_parquet.specs.Files.{magic, framed}
+use Rattle.fd_parquet.specs.Files.{magic}
 use Rattle.fd_parquet.specs.Refusals.{HasMagic, HasInner, Holds}
 
 -- lists that go on from fronts of the same length

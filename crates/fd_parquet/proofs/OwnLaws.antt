@@ -1,8 +1,7 @@
 -- The columns of a table are those of this project's files.
-use Rattle.std.proofs.Common.{◌≡◌, ℕ, Bool, true, false, ◌&&◌, List, [], ◌∷◌, ◌++◌, map, IsTrue, refl, sym, ap, ◌∙◌, codes, cond}
+use Rattle.std.proofs.Common.{◌≡◌, ℕ, true, List, [], ◌∷◌, ◌++◌, map, IsTrue, refl, codes}
 use Rattle.std.specs.Prelude.{All, IsUtf8}
-use Rattle.std.specs.List.{AllZip, list_all}
-use Rattle.std.specs.Str.{is_utf8}
+use Rattle.std.specs.List.{AllZip}
 use Rattle.std.proofs.lemmas.Str.{is_utf8-from_IsUtf8}
 use Rattle.std.proofs.lemmas.List.Elements.{All-head, All-tail}
 use Rattle.fd_kinds.specs.declared.row.Numbered.{Numbered}

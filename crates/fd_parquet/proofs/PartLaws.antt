@@ -1,6 +1,6 @@
 -- Rows that are built one after the other from their cells.
-use Rattle.std.proofs.Common.{◌≡◌, ℕ, zero, suc, ◌+◌, ◌-◌, ◌<◌, ◌≤◌, ◌^◌, Bool, true, false, ℤ, pos, List, [], ◌∷◌, ◌++◌, length, take, get_or, refl, sym, ap, ◌∙◌, subst, arith, length-append}
-use Rattle.std.specs.Prelude.{Option, Some, None, All, Decides, IsSorted, slice_get, unwrap_or}
+use Rattle.std.proofs.Common.{◌≡◌, ℕ, zero, suc, ◌+◌, ◌-◌, ◌<◌, ◌≤◌, ◌^◌, Bool, false, ℤ, pos, List, [], ◌∷◌, ◌++◌, length, take, get_or, refl, sym, ap, ◌∙◌, subst, arith, length-append}
+use Rattle.std.specs.Prelude.{Some, All, IsSorted, slice_get, unwrap_or}
 use Rattle.std.specs.Ordering.{is_lt}
 use Rattle.std.proofs.lemmas.List.{take_more, take_all}
 use Rattle.std.proofs.lemmas.List.Kept.{IsSortedBy-push}
@@ -10,7 +10,6 @@ use Rattle.fd_kinds.specs.declared.row.Row.{Row}
 use Rattle.fd_kinds.specs.declared.row.Numbered.{Numbered}
 use Rattle.fd_column.specs.Numbering.{numbered_cmp, IsNumber}
 use Rattle.fd_pages.specs.declared.cell.Cell.{Cell}
-use Rattle.fd_pages.specs.Columns.{Fits}
 use Rattle.fd_footer.specs.declared.footer.Column.{Column}
 use Rattle.fd_parquet.specs.Files.{IsWithin}
 use Rattle.fd_parquet.specs.Refusals.{AreRows, HaveTexts, BuildsRows}

@@ -1,7 +1,6 @@
 -- Columns whose chunks are read one after the other.
-use Rattle.std.proofs.Common.{◌≡◌, ℕ, zero, suc, ◌+◌, ◌-◌, ◌<◌, ◌≤◌, ◌^◌, List, [], ◌∷◌, ◌++◌, length, drop, get_or, refl, sym, ap, ◌∙◌, subst, append_assoc, arith, rules, length-append, Ok, Err, Result}
-use Rattle.std.specs.Prelude.{All}
-use Rattle.std.specs.List.{concat, AllZip}
+use Rattle.std.proofs.Common.{◌≡◌, ℕ, zero, suc, ◌+◌, ◌-◌, ◌<◌, ◌≤◌, List, [], ◌∷◌, ◌++◌, length, drop, get_or, refl, sym, ap, ◌∙◌, subst, append_assoc, arith, rules, length-append, Ok, Err, Result}
+use Rattle.std.specs.List.{concat}
 use Rattle.std.proofs.lemmas.List.{append-nil, drop_more, drop_all}
 use Rattle.fd_pages.specs.declared.cell.Cell.{Cell}
 use Rattle.fd_pages.specs.declared.fault.PageFault.{PageFault}
@@ -12,11 +11,11 @@ use Rattle.fd_footer.specs.declared.footer.Chunk.{Chunk}
 use Rattle.fd_footer.specs.declared.footer.Column.{Column}
 use Rattle.fd_parquet.specs.declared.fault.FileFault.{FileFault}
 use Rattle.fd_parquet.specs.declared.fault.FileFault.TheVariants.{Page, NoMemory}
-use Rattle.fd_parquet.specs.Files.{magic, chunk_at, places_from}
+use Rattle.fd_parquet.specs.Files.{chunk_at, places_from}
 use Rattle.std.specs.Borrow.{Bor}
 use Rattle.fd_parquet.specs.declared.columns.ReadColumns.{ReadColumns as AnyColumns}
 use Rattle.fd_parquet.proofs.ReadPages.{Read, seen}
-use Rattle.fd_parquet.specs.Refusals.{IsColumn, BeginsChunk, AreColumns, BeginsColumns, FailsAt, IsFailure, IsRefused, Gives}
+use Rattle.fd_parquet.specs.Refusals.{BeginsChunk, AreColumns, BeginsColumns, FailsAt, IsFailure, IsRefused, Gives}
 
 -- all cells and places are those so far and these, which the bytes that are left spell
 pub record GoesOn (pages : Pages) (count place : ℕ) (columns : List Column) (rest : List ℕ) (cells : List (List Cell)) (places : List Chunk) (all : List (List Cell)) (all_places : List Chunk) (end : List ℕ) : Type 0 where

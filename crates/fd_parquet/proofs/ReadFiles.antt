@@ -1,12 +1,12 @@
 -- What is read of the parts of a file, and which file they make up.
-use Rattle.std.proofs.Common.{◌≡◌, ◌≢◌, ℕ, zero, suc, ◌+◌, ◌<◌, ◌≤◌, ◌^◌, ◌⊎◌, inl, inr, Bool, true, false, ℤ, pos, negsuc, List, [], ◌∷◌, ◌++◌, length, map, Option, Some, None, Result, Ok, Err, refl, sym, ap, ◌∙◌, subst, arith, rules, true≢false, ◌==◌, length-append}
+use Rattle.std.proofs.Common.{◌≡◌, ◌≢◌, ℕ, suc, ◌+◌, ◌<◌, ◌^◌, inl, inr, Bool, true, false, ℤ, pos, negsuc, List, [], ◌∷◌, ◌++◌, length, map, Option, Some, None, Result, Ok, Err, refl, sym, ap, ◌∙◌, subst, arith, rules, true≢false, ◌==◌}
 use Rattle.std.specs.Prelude.{All, IsUtf8, Decides, unwrap_or}
 use Rattle.std.specs.List.{AllZip, concat}
 use Rattle.std.specs.Int.Signed.{mag}
 use Rattle.std.proofs.lemmas.List.{append-nil, length-map}
 use Rattle.std.proofs.lemmas.List.Elements.{All-nil, All-cons, All-append, All-head, All-tail}
 use Rattle.fd_kinds.specs.declared.row.Numbered.{Numbered}
-use Rattle.fd_column.specs.Cells.{Column, columns_of, column_name, column_names}
+use Rattle.fd_column.specs.Cells.{Column, columns_of, column_name}
 use Rattle.fd_thrift.specs.Values.{Value}
 use Rattle.fd_thrift.specs.Spelling.{Spells}
 use Rattle.fd_pages.specs.declared.cell.CellKind.{CellKind}
@@ -21,7 +21,6 @@ use Rattle.fd_footer.specs.declared.table.FooterTable.{FooterTable}
 use Rattle.fd_footer.specs.Tables.{total_size}
 use Rattle.fd_footer.specs.Footers.{footer_value, footer_bytes, IsWritable, IsPlaced}
 use Rattle.fd_footer.specs.Own.{are_own}
-use Rattle.fd_footer.specs.Shapes.{has_shape}
 use Rattle.fd_footer.specs.Tabled.{table_of, have_text_names}
 use Rattle.std.specs.Borrow.{Bor}
 use Rattle.fd_parquet.specs.declared.columns.ReadColumns.{ReadColumns as AnyColumns}
@@ -29,13 +28,13 @@ use Rattle.fd_parquet.specs.declared.fault.FileFault.{FileFault}
 use Rattle.fd_parquet.specs.declared.fault.FileFault.TheVariants.{Magic, Footer as FooterFault, Schema, Page, NoMemory}
 use Rattle.fd_parquet.specs.Columns.{file_column, cells_of, HasText}
 use Rattle.fd_parquet.specs.Chunks.{ArePages, IsChunkOf}
-use Rattle.fd_parquet.specs.Files.{magic, framed, places_from, footer_at, footer_of, IsPlainFileOf}
-use Rattle.fd_parquet.specs.Refusals.{HasMagic, Holds, TellsTree, TellsTable, IsColumn, AreColumns, BeginsColumns, FailsAt, HasAll, HasFile, RefusesPage, Refuses, IsRefused, Gives, IsFailure, HasCells, AreRows, HaveTexts, IsFooterOf, HasTable, TellsOf, IsRead, told_of, IsFrameFault, IsFooterFault, TellsOrRefuses, AreParts, HasParts, RefusesParts, IsPartsFault}
+use Rattle.fd_parquet.specs.Files.{framed, places_from, footer_at, footer_of, IsPlainFileOf}
+use Rattle.fd_parquet.specs.Refusals.{HasMagic, Holds, TellsTree, TellsTable, IsColumn, AreColumns, BeginsColumns, FailsAt, HasAll, HasFile, RefusesPage, Refuses, IsRefused, Gives, IsFailure, AreRows, HaveTexts, IsFooterOf, HasTable, TellsOf, IsRead, told_of, IsFrameFault, IsFooterFault, TellsOrRefuses, AreParts, HasParts, RefusesParts, IsPartsFault}
 use Rattle.fd_parquet.proofs.ColumnLaws.{cells_length}
 use Rattle.fd_parquet.proofs.FileLaws.{total_is, placed_all, places_length}
 use Rattle.fd_parquet.proofs.FooterSpells.{footer_spelled}
 use Rattle.fd_parquet.proofs.FramedLaws.{holds_magic}
-use Rattle.fd_parquet.proofs.OwnLaws.{columns_own, names_are_texts, chunked_names}
+use Rattle.fd_parquet.proofs.OwnLaws.{columns_own, chunked_names}
 
 -- ---- what a footer tells
 

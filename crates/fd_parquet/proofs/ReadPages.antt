@@ -1,18 +1,17 @@
 -- Pages that are read one after the other are the chunk of their cells.
-use Rattle.std.proofs.Common.{◌≡◌, ℕ, zero, suc, ◌+◌, ◌-◌, ◌<◌, ◌≤◌, Bool, true, false, nat_lt, List, [], ◌∷◌, ◌++◌, length, take, drop, min, slice_range, refl, sym, ap, ◌∙◌, subst, append_assoc, arith, rules, length-append, take-append-drop, Ok, Err, Result}
+use Rattle.std.proofs.Common.{◌≡◌, ℕ, ◌+◌, ◌-◌, ◌<◌, ◌≤◌, Bool, true, false, nat_lt, List, [], ◌∷◌, ◌++◌, length, take, drop, min, slice_range, refl, sym, ap, ◌∙◌, subst, append_assoc, arith, rules, length-append, take-append-drop, Ok, Err, Result}
 use Rattle.std.proofs.lemmas.List.{append-nil, nil_from_length, drop_at, take_at}
-use Rattle.std.proofs.lemmas.Grind.{common_steps}
 use Rattle.std.specs.Borrow.{Bor}
 use Rattle.fd_pages.specs.declared.cell.CellKind.{CellKind}
 use Rattle.fd_pages.specs.declared.cell.Cell.{Cell}
 use Rattle.fd_pages.specs.declared.fault.PageFault.{PageFault}
 use Rattle.fd_pages.specs.declared.fault.PageFault.TheVariants.{BadPage, NoMemory}
-use Rattle.fd_pages.specs.Pages.{IsPage, IsPageAt, max_rows, Gives, SeenGives}
+use Rattle.fd_pages.specs.Pages.{IsPage, IsPageAt, Gives, SeenGives}
 use Rattle.fd_footer.specs.declared.footer.Pages.{Pages}
 use Rattle.fd_footer.specs.declared.footer.Column.{Column}
 use Rattle.fd_parquet.specs.Columns.{kind_in}
 use Rattle.fd_parquet.specs.Refusals.{BeginsChunk}
-use Rattle.fd_parquet.specs.Chunks.{ArePages, IsChunk, BeginsPage, BeginsCells}
+use Rattle.fd_parquet.specs.Chunks.{ArePages, BeginsPage, BeginsCells}
 
 -- cells and the bytes behind them, as they are read
 abbrev pub Read : Type 0

@@ -1,15 +1,14 @@
 -- The rows are read back from their cells.
-use Rattle.std.proofs.Common.{◌≡◌, ℕ, zero, suc, ◌+◌, ◌<◌, ◌≤◌, ◌^◌, ℤ, pos, List, [], ◌∷◌, ◌++◌, length, map, refl, sym, ap, ◌∙◌, subst, arith, length-append, codes}
+use Rattle.std.proofs.Common.{◌≡◌, ℕ, zero, suc, ◌+◌, ◌<◌, ◌^◌, pos, List, [], ◌∷◌, ◌++◌, length, map, refl, sym, ap, ◌∙◌, subst, arith, length-append, codes}
 use Rattle.std.specs.Prelude.{Option, Some, None, slice_get, unwrap_or, option_map, option_and_then, All}
 use Rattle.std.specs.List.{cons_option}
 use Rattle.std.proofs.lemmas.Option.{slice_get-map, same_Some}
 use Rattle.std.proofs.lemmas.List.Elements.{All-nil, All-cons, All-head, All-tail}
 use Rattle.fd_kinds.specs.declared.kinds.Pair.{Pair}
-use Rattle.fd_kinds.specs.declared.row.Row.{Row}
 use Rattle.fd_kinds.specs.declared.row.Numbered.{Numbered}
 use Rattle.fd_kinds.specs.LabelMaps.{value_of}
 use Rattle.fd_column.specs.Cells.{Column, number, name, sample_type, sample_unit, period_type, period_unit, timestamp, stack, period, duration, value, label, pprof_label, cell_of, label_cell, columns_of, names_in, series_pairs, pprof_pairs}
-use Rattle.fd_column.specs.Labelled.{label_column, label_columns, pair_at, pairs_at, labels_from}
+use Rattle.fd_column.specs.Labelled.{label_column, pair_at, pairs_at}
 use Rattle.fd_column.specs.Stacks.{stack_bytes, frame_bytes, frames_of, AreShort}
 use Rattle.fd_column.proofs.LabelsBack.{pairs_of_row, labels_from_is}
 use Rattle.fd_column.proofs.StackLaws.{frames_of_stack}
@@ -18,7 +17,7 @@ use Rattle.fd_pages.specs.Columns.{Fits}
 use Rattle.fd_footer.specs.declared.footer.Column.{Column as FileColumn}
 use Rattle.fd_parquet.specs.Columns.{file_cell, file_column, cells_of}
 use Rattle.fd_parquet.specs.Refusals.{HasCells}
-use Rattle.fd_parquet.specs.Rows.{cell_in, number_of, bytes_of, text_in, behind, pair_of, pairs_in, labels_in, row_in}
+use Rattle.fd_parquet.specs.Rows.{cell_in, number_of, bytes_of, pair_of, pairs_in, row_in}
 
 -- the cell of a row that is there
 cell_here : (c : Column) (rows : List Numbered) (at : ℕ) (n : Numbered) → slice_get rows at ≡ Some n → slice_get (cells_of c rows) at ≡ Some (file_cell (cell_of c n))

@@ -1,5 +1,5 @@
 -- The table of rows with these cells and this footer.
-use Rattle.std.proofs.Common.{◌≡◌, ℕ, ◌<◌, ◌≤◌, ◌^◌, Bool, true, false, List, map, Option, Some, None, Result, Ok, Err, refl, sym, ap, ◌∙◌, true≢false, rules}
+use Rattle.std.proofs.Common.{◌≡◌, ℕ, ◌<◌, ◌≤◌, ◌^◌, Bool, true, false, List, map, Option, Some, None, Result, Ok, Err, refl, sym, ap, true≢false, rules}
 use Rattle.std.specs.Prelude.{All, Decides, IfOk, IfSome, IsSorted, option_map, unwrap_or}
 use Rattle.fd_kinds.specs.declared.row.Numbered.{Numbered}
 use Rattle.fd_column.specs.Cells.{columns_of}

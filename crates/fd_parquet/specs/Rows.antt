@@ -1,5 +1,5 @@
 -- The rows that cells tell, column by column.
-use Rattle.std.specs.Prelude.{◌≡◌, ℕ, ℤ, pos, ◌==◌, if◌then◌else◌, Bool, false, List, [], ◌∷◌, Option, Some, None, slice_get, unwrap_or, codes}
+use Rattle.std.specs.Prelude.{◌≡◌, ℕ, ℤ, pos, ◌==◌, if◌then◌else◌, false, List, [], ◌∷◌, Option, Some, None, slice_get, unwrap_or, codes}
 use Rattle.std.specs.List.{cons_option}
 use Rattle.std.specs.Ordering.{is_lt}
 use Rattle.fd_kinds.specs.declared.kinds.Pair.{Pair}

@@ -1,6 +1,5 @@
-use Rattle.std.proofs.Common.{ℕ, ◌+◌, List, [], ◌∷◌, ◌++◌, sym, subst}
-use Rattle.fd_pages.specs.declared.cell.Cell.{Cell}
-use Rattle.fd_parquet.proofs.ReadColumns.{ReadsColumns, columns_none, columns_more, columns_all, columns_one, columns_never_fail, refused_gives, refused_fails, refused_only}
+use Rattle.std.proofs.Common.{◌+◌, [], ◌∷◌, ◌++◌, sym, subst}
+use Rattle.fd_parquet.proofs.ReadColumns.{ReadsColumns, columns_none, columns_more, columns_all, columns_one, refused_gives, refused_fails, refused_only}
 use Rattle.fd_parquet.proofs.columns.columns_in.Goals as goal
 
 pub loop-at-init : goal.loop-at-init

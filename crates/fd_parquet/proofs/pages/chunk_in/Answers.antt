@@ -1,6 +1,5 @@
-use Rattle.std.proofs.Common.{◌≡◌, ◌<◌, ◌≤◌, ◌-◌, ℕ, List, length, min, Ok, sym, ap, ◌∙◌, subst, arith}
+use Rattle.std.proofs.Common.{◌≡◌, ◌<◌, ◌≤◌, ◌-◌, length, min, sym, ap, ◌∙◌, subst, arith}
 use Rattle.std.proofs.lemmas.Result.{err_from_is_err_and}
-use Rattle.fd_pages.specs.declared.cell.Cell.{Cell}
 use Rattle.fd_parquet.proofs.ReadPages.{ReadsPages, pages_more, pages_refused, pages_all, pages_one}
 use Rattle.fd_parquet.proofs.pages.chunk_in.Goals as goal
 

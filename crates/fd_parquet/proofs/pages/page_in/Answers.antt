@@ -1,11 +1,8 @@
-use Rattle.std.proofs.Common.{◌≡◌, ℕ, List, length, drop, Ok, sym, ap, ◌∙◌}
+use Rattle.std.proofs.Common.{◌≡◌, ℕ, List, length, drop, Ok, ap, ◌∙◌}
 use Rattle.std.proofs.lemmas.List.{take_rest}
 use Rattle.std.proofs.lemmas.Result.{err_from_is_err_and}
-use Rattle.fd_kinds.specs.declared.items.Items.{Items}
-use Rattle.std.specs.Borrow.{Bor}
 use Rattle.fd_pages.specs.declared.cell.Cell.{Cell}
 use Rattle.fd_pages.specs.declared.cell.Cells.{Cells}
-use Rattle.fd_parquet.specs.Chunks.{BeginsPage}
 use Rattle.fd_parquet.proofs.ReadPages.{page_placed, rest_is, seen_err, ok_gives}
 use Rattle.fd_parquet.proofs.pages.page_in.Goals as goal
 

@@ -1,4 +1,4 @@
-use Rattle.std.proofs.Common.{◌≡◌, length, true, false, true≢false, sym, ◌∙◌}
+use Rattle.std.proofs.Common.{length, true≢false, sym, ◌∙◌}
 use Rattle.std.proofs.lemmas.Result.{IfOk-weaker}
 use Rattle.fd_parquet.proofs.ReadFiles.{places_count, places_fit, sizes_fit}
 use Rattle.fd_parquet.proofs.reading.fits_table.Goals as goal

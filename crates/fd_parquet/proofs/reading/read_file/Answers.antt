@@ -1,9 +1,8 @@
-use Rattle.std.proofs.Common.{◌≡◌, ℕ, List, Err, Ok, Result, sym, ap, ◌∙◌, subst}
+use Rattle.std.proofs.Common.{◌≡◌, ℕ, List, Err, sym, ap, ◌∙◌, subst}
 use Rattle.std.specs.Prelude.{IfErr}
 use Rattle.std.proofs.lemmas.Result.{err_from_is_err_and}
 use Rattle.fd_kinds.specs.declared.row.Numbered.{Numbered}
 use Rattle.fd_parquet.specs.declared.reading.FileTable.{FileTable}
-use Rattle.fd_parquet.specs.declared.fault.FileFault.{FileFault}
 use Rattle.fd_parquet.specs.declared.fault.FileFault.TheVariants.{NoMemory}
 use Rattle.fd_parquet.specs.Refusals.{Refuses, IsRefused, Gives, IsPartsFault}
 use Rattle.fd_parquet.proofs.ReadFiles.{plain_parts, footer_refuses, footer_only, parts_refuse, parts_only}

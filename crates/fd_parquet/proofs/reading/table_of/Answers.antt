@@ -1,13 +1,11 @@
-use Rattle.std.proofs.Common.{◌≡◌, ◌≤◌, ◌<◌, ◌^◌, ℕ, List, Some, None, Result, Ok, sym, ap, ◌∙◌, subst, length}
-use Rattle.std.specs.Prelude.{IfOk, IfSome, All, Decides, IsSorted, option_map}
+use Rattle.std.proofs.Common.{◌≡◌, ◌≤◌, ◌<◌, ◌^◌, ℕ, List, Some, sym, ◌∙◌, subst}
+use Rattle.std.specs.Prelude.{IfOk, IfSome, All, IsSorted, option_map}
 use Rattle.fd_kinds.specs.declared.row.Numbered.{Numbered}
 use Rattle.fd_column.specs.Numbering.{numbered_cmp}
-use Rattle.fd_footer.specs.declared.footer.Chunk.{Chunk}
-use Rattle.fd_parquet.specs.declared.reading.FileTable.{FileTable}
 use Rattle.fd_parquet.specs.Files.{IsWithin}
 use Rattle.fd_parquet.specs.Refusals.{HaveTexts, FitsTable, HasTable, AreRows}
 use Rattle.fd_parquet.proofs.ReadFiles.{have_texts, same_range, rows_here}
-use Rattle.fd_parquet.proofs.TableLaws.{TellsItsRows, IsKept, has_table, fits_when, kept_found, kept_gives, table_fits, some_is}
+use Rattle.fd_parquet.proofs.TableLaws.{TellsItsRows, has_table, fits_when, kept_found, kept_gives, table_fits, some_is}
 use Rattle.fd_parquet.proofs.reading.table_of.Goals as goal
 
 pub part_of-requires-clause-texts : goal.part_of-requires-clause-texts

@@ -1,4 +1,4 @@
-use Rattle.std.proofs.Common.{◌≡◌, ℕ, List, length, Some, sym, ap, ◌∙◌, subst}
+use Rattle.std.proofs.Common.{List, length, Some, sym, ap, ◌∙◌, subst}
 use Rattle.std.specs.Prelude.{IfSome, All, IsSorted}
 use Rattle.fd_kinds.specs.declared.row.Numbered.{Numbered}
 use Rattle.fd_column.specs.Numbering.{numbered_cmp}

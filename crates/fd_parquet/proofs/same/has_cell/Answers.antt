@@ -1,4 +1,4 @@
-use Rattle.std.proofs.Common.{◌≡◌, Some, None, sym, ap, subst}
+use Rattle.std.proofs.Common.{◌≡◌, Some, sym, subst}
 use Rattle.std.specs.Prelude.{Decides, slice_get}
 use Rattle.std.specs.Option.{option_copied}
 use Rattle.fd_parquet.specs.Columns.{cells_of, column_at}

@@ -1,7 +1,6 @@
-use Rattle.std.proofs.Common.{◌≡◌, ◌<◌, ℕ, List, Some, map, length, true, false, true≢false, sym, ap, ◌∙◌, arith}
+use Rattle.std.proofs.Common.{◌≡◌, ◌<◌, Some, map, length, true≢false, sym, ap, ◌∙◌, arith}
 use Rattle.std.specs.Prelude.{slice_get}
 use Rattle.fd_column.specs.Cells.{columns_of}
-use Rattle.fd_pages.specs.declared.cell.Cell.{Cell}
 use Rattle.fd_parquet.specs.Columns.{column_count, column_at, cells_of}
 use Rattle.fd_parquet.proofs.SameLaws.{same_more, same_there, list_there, list_is}
 use Rattle.fd_parquet.proofs.same.has_cells.Goals as goal

@@ -1,4 +1,4 @@
-use Rattle.std.proofs.Common.{◌≡◌, ◌<◌, length, refl, sym, ap, ◌∙◌, arith}
+use Rattle.std.proofs.Common.{◌≡◌, length, refl, arith}
 use Rattle.fd_parquet.specs.Columns.{cells_of, column_at}
 use Rattle.fd_parquet.proofs.ColumnLaws.{cells_length}
 use Rattle.fd_parquet.proofs.SameLaws.{same_more, same_all}
