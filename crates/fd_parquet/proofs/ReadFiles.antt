@@ -4,12 +4,11 @@ use Rattle.std.specs.Prelude.{All, IsUtf8, Decides, unwrap_or}
 use Rattle.std.specs.List.{AllZip, concat}
 use Rattle.std.specs.Int.Signed.{mag}
 use Rattle.std.proofs.lemmas.List.{append-nil, length-map}
-use Rattle.std.proofs.lemmas.List.Elements.{All-nil, All-cons, All-append, All-head, All-tail}
+use Rattle.std.proofs.lemmas.List.Elements.{All-nil, All-cons, All-head, All-tail}
 use Rattle.fd_kinds.specs.declared.row.Numbered.{Numbered}
 use Rattle.fd_column.specs.Cells.{Column, columns_of, column_name}
 use Rattle.fd_thrift.specs.Values.{Value}
 use Rattle.fd_thrift.specs.Spelling.{Spells}
-use Rattle.fd_pages.specs.declared.cell.CellKind.{CellKind}
 use Rattle.fd_pages.specs.declared.cell.Cell.{Cell}
 use Rattle.fd_pages.specs.Columns.{Fits}
 use Rattle.fd_footer.specs.declared.footer.Pages.{Pages}
@@ -27,13 +26,14 @@ use Rattle.fd_parquet.specs.declared.columns.ReadColumns.{ReadColumns as AnyColu
 use Rattle.fd_parquet.specs.declared.fault.FileFault.{FileFault}
 use Rattle.fd_parquet.specs.declared.fault.FileFault.TheVariants.{Magic, Footer as FooterFault, Schema, Page, NoMemory}
 use Rattle.fd_parquet.specs.Columns.{file_column, cells_of, HasText}
-use Rattle.fd_parquet.specs.Chunks.{ArePages, IsChunkOf}
+use Rattle.fd_parquet.specs.Chunks.{IsChunkOf}
 use Rattle.fd_parquet.specs.Files.{framed, places_from, footer_at, footer_of, IsPlainFileOf}
 use Rattle.fd_parquet.specs.Refusals.{HasMagic, Holds, TellsTree, TellsTable, IsColumn, AreColumns, BeginsColumns, FailsAt, HasAll, HasFile, RefusesPage, Refuses, IsRefused, Gives, IsFailure, AreRows, HaveTexts, IsFooterOf, HasTable, TellsOf, IsRead, told_of, IsFrameFault, IsFooterFault, TellsOrRefuses, AreParts, HasParts, RefusesParts, IsPartsFault}
 use Rattle.fd_parquet.proofs.ColumnLaws.{cells_length}
 use Rattle.fd_parquet.proofs.FileLaws.{total_is, placed_all, places_length}
 use Rattle.fd_parquet.proofs.FooterSpells.{footer_spelled}
-use Rattle.fd_parquet.proofs.FramedLaws.{holds_magic}
+use Rattle.fd_parquet.proofs.MagicLaws.{holds_magic}
+use Rattle.fd_parquet.proofs.OneChunk.{chunk_fits}
 use Rattle.fd_parquet.proofs.OwnLaws.{columns_own, chunked_names}
 
 -- ---- what a footer tells
@@ -52,12 +52,6 @@ footer_tells one_spelling tables footer v told rows lo hi places tells is short 
     ap (λ o. unwrap_or o told) e
 
 -- ---- the cells that were read
-
-pages_fit : (kind : CellKind) (required : Bool) (pages : List (List Cell)) (cells : List Cell) (bytes : List ℕ) → ArePages kind required pages cells bytes → All Fits cells
-pages_fit kind required [] cells bytes are = subst (λ xs. All Fits xs) (sym are.0) (All-nil Fits)
-pages_fit kind required (front ∷ pages) cells bytes are =
-    let (behind, page, rest, split, spelled, is, full, others) = are in
-    subst (λ xs. All Fits xs) (sym split) (All-append Fits front behind is.fit (pages_fit kind required pages behind rest others))
 
 texts_of : (pages : Pages) (count : ℕ) (columns : List FileColumn) (cells : List (List Cell)) (chunks : List (List ℕ)) → AreColumns pages count columns cells chunks → AllZip (λ f cells. All (HasText f) cells) columns cells
 texts_of pages count [] [] [] are = tt
@@ -81,7 +75,7 @@ fit_of pages count (f ∷ fs) [] (x ∷ xs) are = absurd are
 fit_of pages count (f ∷ fs) (c ∷ cs) [] are = absurd are
 fit_of pages count (f ∷ fs) (c ∷ cs) (x ∷ xs) are =
     let first : IsColumn pages f count c x = are.0 in
-    All-cons (All Fits) c cs (pages_fit _ _ first.chunk.pages c x first.chunk.spelled) (fit_of pages count fs cs xs are.1)
+    All-cons (All Fits) c cs (chunk_fits _ _ c x first.chunk) (fit_of pages count fs cs xs are.1)
 
 pub have_texts : (told : FooterTable) (count : ℕ) (cells : List (List Cell)) (places : List Chunk) → IsRead told count cells places → HaveTexts told.columns cells
 have_texts told count cells places read = record {

@@ -1,4 +1,4 @@
-use Rattle.fd_parquet.proofs.FramedLaws.{inner_there, no_last}
+use Rattle.fd_parquet.proofs.MagicLaws.{inner_there, no_last}
 use Rattle.fd_parquet.proofs.framing.inner.Goals as goal
 
 pub returns-in_default-before-clause-none : goal.returns-in_default-before-clause-none

@@ -1,6 +1,6 @@
 use Rattle.std.proofs.Common.{◌≡◌, ◌-◌, ◌<◌, ◌≤◌, ◌^◌, ◌++◌, List, ℕ, length, sym, ap, ◌∙◌, arith, take-append-drop}
 use Rattle.std.specs.Int.{w32, to_le_bytes, from_le_bytes}
-use Rattle.fd_parquet.proofs.FramedLaws.{holds_there, no_long_footer, parts_are}
+use Rattle.fd_parquet.proofs.MagicLaws.{holds_there, no_long_footer, parts_are}
 use Rattle.fd_parquet.proofs.framing.parts_of.Goals as goal
 
 pub returns-then-length-rest-clause-only : goal.returns-then-length-rest-clause-only

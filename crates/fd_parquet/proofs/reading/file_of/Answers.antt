@@ -12,7 +12,7 @@ use Rattle.fd_parquet.specs.Files.{places_from}
 use Rattle.fd_parquet.specs.Refusals.{BeginsColumns, FailsAt, HasTable, RefusesParts, AreParts}
 use Rattle.fd_parquet.proofs.ReadFiles.{told_is, count_is, begins, negative_none, err_gives, columns_refused_only, last_refused, found_only, table_parts}
 use Rattle.fd_parquet.proofs.TableLaws.{TellsItsRows}
-use Rattle.fd_parquet.proofs.PartsLaws.{never_fails, rest_is, some_left, none_left, read_table, some_table, no_table}
+use Rattle.fd_parquet.proofs.FileAnswers.{never_fails, rest_is, some_left, none_left, read_table, some_table, no_table}
 use Rattle.fd_parquet.proofs.reading.file_of.Goals as goal
 
 pub returns-in_default-clause-only : goal.returns-in_default-clause-only

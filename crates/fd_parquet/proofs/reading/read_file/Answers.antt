@@ -6,7 +6,7 @@ use Rattle.fd_parquet.specs.declared.reading.FileTable.{FileTable}
 use Rattle.fd_parquet.specs.declared.fault.FileFault.TheVariants.{NoMemory}
 use Rattle.fd_parquet.specs.Refusals.{Refuses, IsRefused, Gives, IsPartsFault}
 use Rattle.fd_parquet.proofs.ReadFiles.{plain_parts, footer_refuses, footer_only, parts_refuse, parts_only}
-use Rattle.fd_parquet.proofs.PartsLaws.{own_tells, told_gives, refused_whole}
+use Rattle.fd_parquet.proofs.FileAnswers.{own_tells, told_gives, refused_whole}
 use Rattle.fd_parquet.proofs.reading.read_file.Goals as goal
 
 pub returns-in_err-told-clause-only : goal.returns-in_err-told-clause-only

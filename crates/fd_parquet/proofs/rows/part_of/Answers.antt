@@ -4,7 +4,7 @@ use Rattle.fd_kinds.specs.declared.row.Numbered.{Numbered}
 use Rattle.fd_column.specs.Numbering.{numbered_cmp}
 use Rattle.fd_parquet.specs.Files.{IsWithin}
 use Rattle.fd_parquet.specs.Refusals.{BuildsRows}
-use Rattle.fd_parquet.proofs.PartLaws.{rows_all, numbers_fit}
+use Rattle.fd_parquet.proofs.BuiltRows.{rows_all, numbers_fit}
 use Rattle.fd_parquet.proofs.rows.part_of.Goals as goal
 
 pub returns-in_default-clause-only : goal.returns-in_default-clause-only

@@ -5,7 +5,7 @@ use Rattle.fd_parquet.specs.Files.{IsWithin}
 use Rattle.fd_parquet.specs.Rows.{cell_in, number_of, row_in, MayFollow}
 use Rattle.std.specs.Prelude.{slice_get}
 use Rattle.std.proofs.Common.{◌-◌}
-use Rattle.fd_parquet.proofs.PartLaws.{rows_more, no_number, no_order}
+use Rattle.fd_parquet.proofs.BuiltRows.{rows_more, no_number, no_order}
 use Rattle.fd_parquet.proofs.rows.rows_in.Goals as goal
 
 pub returns-in_default-clause-none : goal.returns-in_default-clause-none

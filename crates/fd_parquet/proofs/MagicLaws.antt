@@ -2,17 +2,11 @@
 use Rattle.std.proofs.Common.{◌≡◌, ℕ, ◌+◌, ◌-◌, ◌<◌, ◌≤◌, ◌^◌, List, ◌++◌, length, take, drop, refl, sym, ap, ◌∙◌, append_assoc, arith, length-append, length-drop, take-append-drop}
 use Rattle.std.specs.Int.{w32, to_le_bytes, from_le_bytes}
 use Rattle.std.proofs.lemmas.Nat.{from_le_bytes-to_le_bytes_4}
-use Rattle.std.proofs.lemmas.List.{take_at, drop_at, take-append-le, append_cancel_left, append_cancel_right}
+use Rattle.std.proofs.lemmas.List.{take_at, take-append-le, append_cancel_left, append_cancel_right}
 use Rattle.std.proofs.lemmas.List.Prefix.{end_rest}
 use Rattle.fd_parquet.specs.Files.{magic}
 use Rattle.fd_parquet.specs.Refusals.{HasMagic, HasInner, Holds}
-
--- lists that go on from fronts of the same length
-pub split_same : {A : Type 0} (a b x y : List A) → length a ≡ length b → a ++ x ≡ b ++ y → (a ≡ b) × (x ≡ y)
-split_same a b x y len e = (
-  sym (take_at a x (length a) refl) ∙ ap (λ xs. take (length a) xs) e ∙ take_at b y (length a) (sym len),
-  sym (drop_at a x (length a) refl) ∙ ap (λ xs. drop (length a) xs) e ∙ drop_at b y (length a) (sym len),
-)
+use Rattle.fd_parquet.proofs.OneChunk.{split_same}
 
 -- what stands between two magics
 record IsBetween (bytes inner : List ℕ) : Type 0 where
@@ -95,7 +89,7 @@ holds_is bytes inner rest tail body footer h split four holds =
     let a : length (rest ++ (tail ++ magic)) ≡ length rest + (length tail + length magic) = length-append rest (tail ++ magic) ∙ ap (λ n. length rest + n) (length-append tail magic) in
     let b : length ((body ++ footer) ++ (le ++ magic)) ≡ length (body ++ footer) + (length le + length magic) = length-append (body ++ footer) (le ++ magic) ∙ ap (λ n. length (body ++ footer) + n) (length-append le magic) in
     let len : length rest ≡ length (body ++ footer) = omega (arith, a, b, four, ap length same) in
-    let s = split_same rest (body ++ footer) (tail ++ magic) (le ++ magic) len same in
+    let s = split_same rest (body ++ footer) (tail ++ magic) (le ++ magic) same len in
     let t : tail ≡ le = append_cancel_right tail le magic s.1 in
     (ap (λ xs. from_le_bytes w32 xs) t ∙ from_le_bytes-to_le_bytes_4 (length footer) holds.short, s.0)
 
@@ -117,5 +111,5 @@ parts_are bytes inner rest tail front back body footer h split four parts told h
     let a : length (front ++ back) ≡ length front + length back = length-append front back in
     let b : length (body ++ footer) ≡ length body + length footer = length-append body footer in
     let len : length front ≡ length body = omega (arith, a, b, told, told2, ap length same) in
-    let s = split_same front body back footer len same in
+    let s = split_same front body back footer same len in
     λ j. (s.0 j, s.1 j)
