@@ -17,8 +17,6 @@ mod pieces;
 mod read;
 mod stacks;
 mod table;
-#[cfg(test)]
-mod tests;
 mod texts;
 
 pub use builder::PartBuilder;

@@ -5,7 +5,5 @@ mod cursor;
 mod merging;
 mod order;
 mod side;
-#[cfg(test)]
-mod tests;
 
 pub use merging::merge;

@@ -17,8 +17,6 @@ mod series;
 mod sets;
 mod summing;
 mod sums;
-#[cfg(test)]
-mod tests;
 mod types;
 
 pub use gathered::{Gathered, scan};

@@ -1,8 +1,8 @@
-use crate::{Gathered, distinct_laws};
 use fd_kinds::{
     Answer, Items, Labels, MatchOp, Matcher, NoMemory, OneRange, Pair, Point, Points, ProfileType,
     Query, Row, Selector, SeriesName, Stack, StackSum, Text, Texts, Window,
 };
+use fd_scan::{Gathered, distinct_laws};
 use std::alloc::Global;
 use std::test::Fail;
 

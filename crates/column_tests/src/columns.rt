@@ -1,6 +1,6 @@
 ghost use Rattle.std.specs.Prelude.{◌≡◌, ◌<◌, ◌^◌, [], ◌∷◌, IfOk};
 
-use crate::{ColumnPart, Columns, PartBuilder};
+use fd_column::{ColumnPart, Columns, PartBuilder};
 use fd_kinds::{Items, Labels, NoMemory, Numbered, Pair, Row, Stack, Text};
 use std::alloc::Global;
 use std::test::Fail;

@@ -1,8 +1,8 @@
 ghost use Rattle.std.specs.Prelude.{◌≡◌, ◌<◌, ◌^◌, [], ◌∷◌, IfOk};
 
-use crate::merge;
 use fd_column::{ColumnPart, Columns, PartBuilder};
 use fd_kinds::{Items, Labels, NoMemory, Numbered, Pair, Row, Stack, Text};
+use fd_merge::merge;
 use std::alloc::Global;
 use std::test::Fail;
 
