@@ -98,11 +98,12 @@ lists_count rows [] = refl
 lists_count rows (c ∷ cs) = ap suc (lists_count rows cs)
 
 -- a place for each column
-pub places_count : (told : FooterTable) (count : ℕ) (cells : List (List Cell)) (places : List Chunk) (rows : List Numbered) → IsRead told count cells places
-    → cells ≡ map (λ c. cells_of c rows) (columns_of rows) → length places ≡ length (columns_of rows)
-places_count told count cells places rows read same =
+pub places_count : (told : FooterTable) (count : ℕ) (cells : List (List Cell)) (places : List Chunk) → IsRead told count cells places → length places ≡ length cells
+places_count told count cells places read =
     ap length read.begins.placed ∙ places_length 4 read.begins.chunks ∙ chunks_count told.pages count told.columns cells read.begins.chunks read.begins.are
-    ∙ ap length same ∙ lists_count rows (columns_of rows)
+
+pub cells_count : (cells : List (List Cell)) (rows : List Numbered) → cells ≡ map (λ c. cells_of c rows) (columns_of rows) → length cells ≡ length (columns_of rows)
+cells_count cells rows same = ap length same ∙ lists_count rows (columns_of rows)
 
 body_length : (told : FooterTable) (count : ℕ) (cells : List (List Cell)) (places : List Chunk) → (read : IsRead told count cells places) → 4 + length (concat read.begins.chunks) < 2 ^ 63
 body_length told count cells places read =

@@ -121,7 +121,6 @@ fn footers_tell_their_rows()
 /// Whether a table has these cells and this footer. 2^31 columns or more want memory.
 fn fits_table(
     alloc: Global,
-    told: &FooterTable,
     table: &ColumnPart,
     lo: u64,
     hi: u64,
@@ -129,10 +128,12 @@ fn fits_table(
     places: Chunks,
     footer: &[u8],
 ) -> Result<bool, NoMemory>
-    requires { IsRead told.now (length table.now) cells.now places }
+    requires chunks { length places ≡ length cells.now }
+    requires placed { All IsPlaced places }
+    requires small { total_size places < 2 ^ 63 }
+    requires rows { length table.now < 2 ^ 63 }
     ensures { IfOk result (λ fits. Decides fits (FitsTable footer.now cells.now places table.now lo hi)) }
 {
-    let _rows = told.rows;
     if !has_cells(table, cells) {
         return Ok(false);
     }
@@ -183,16 +184,7 @@ fn table_of(
     let Some(table) = part_of(alloc, columns, cells.as_slice(), count, lo, hi)? else {
         return Ok(None);
     };
-    let fits = fits_table(
-        alloc,
-        told,
-        &table,
-        lo,
-        hi,
-        cells.as_slice(),
-        places,
-        footer,
-    );
+    let fits = fits_table(alloc, &table, lo, hi, cells.as_slice(), places, footer);
     kept(table, lo, hi, fits)
 }
 
@@ -231,8 +223,9 @@ fn file_of(
     }
 }
 
-/// Reads the file of a table as `write_file` writes it. No count, length or place that the bytes
-/// claim makes it take memory: each page and text has to be there.
+/// Reads the file of a table (parquet-format, `README.md`, "File format") as `write_file` writes it, and
+/// refuses other bytes by the first fault that holds (`FileFault`). No count, length or place that the
+/// bytes claim makes it take memory: each page and text has to be there.
 pub fn read_file(alloc: Global, bytes: &[u8]) -> Result<FileTable, FileFault>
     // What is read has this file.
     ensures found { IfOk result (λ file. IsPlainFileOf bytes.now file.table file.lo file.hi) }

@@ -1,6 +1,6 @@
 use Rattle.std.proofs.Common.{length, true≢false, sym, ◌∙◌}
 use Rattle.std.proofs.lemmas.Result.{IfOk-weaker}
-use Rattle.fd_parquet.proofs.ReadFiles.{places_count, places_fit, sizes_fit}
+use Rattle.fd_parquet.proofs.ReadFiles.{cells_count}
 use Rattle.fd_parquet.proofs.reading.fits_table.Goals as goal
 
 pub returns-then-not-has_cells : goal.returns-then-not-has_cells
@@ -10,16 +10,7 @@ returns-then-not-has_cells c = (
 )
 
 pub has_footer-requires-clause-chunks : goal.has_footer-requires-clause-chunks
-has_footer-requires-clause-chunks c = places_count c.args.told.now (length c.args.table.now) c.args.cells.now c.args.places c.args.table.now c.requires (c.has_cells.ensures.0 c.if-not-has_cells.false)
-
-pub has_footer-requires-clause-placed : goal.has_footer-requires-clause-placed
-has_footer-requires-clause-placed c = places_fit c.args.told.now (length c.args.table.now) c.args.cells.now c.args.places c.requires
-
-pub has_footer-requires-clause-small : goal.has_footer-requires-clause-small
-has_footer-requires-clause-small c = sizes_fit c.args.told.now (length c.args.table.now) c.args.cells.now c.args.places c.requires
-
-pub has_footer-requires-clause-rows : goal.has_footer-requires-clause-rows
-has_footer-requires-clause-rows c = c.requires.few
+has_footer-requires-clause-chunks c = c.requires.chunks ∙ cells_count c.args.cells.now c.args.table.now (c.has_cells.ensures.0 c.if-not-has_cells.false)
 
 pub returns : goal.returns
 returns c =

@@ -1,10 +1,10 @@
-use Rattle.std.proofs.Common.{◌≡◌, ◌≤◌, ◌<◌, ◌^◌, ℕ, List, Some, sym, ◌∙◌, subst}
+use Rattle.std.proofs.Common.{◌≡◌, ◌≤◌, ◌<◌, ◌^◌, ℕ, List, length, Some, sym, ap, ◌∙◌, subst}
 use Rattle.std.specs.Prelude.{IfOk, IfSome, All, IsSorted, option_map}
 use Rattle.fd_kinds.specs.declared.row.Numbered.{Numbered}
 use Rattle.fd_column.specs.Numbering.{numbered_cmp}
 use Rattle.fd_parquet.specs.Files.{IsWithin}
 use Rattle.fd_parquet.specs.Refusals.{HaveTexts, FitsTable, HasTable, AreRows}
-use Rattle.fd_parquet.proofs.ReadFiles.{have_texts, same_range, rows_here}
+use Rattle.fd_parquet.proofs.ReadFiles.{have_texts, places_count, places_fit, sizes_fit, same_range, rows_here}
 use Rattle.fd_parquet.proofs.TableLaws.{TellsItsRows, has_table, fits_when, kept_found, kept_gives, table_fits, some_is}
 use Rattle.fd_parquet.proofs.reading.table_of.Goals as goal
 
@@ -13,6 +13,16 @@ part_of-requires-clause-texts c =
     subst (λ xs. HaveTexts c.as_slice-columns.result.now xs) (sym c.as_slice.ensures)
     (subst (λ xs. HaveTexts xs c.args.read.cells) (sym c.as_slice-columns.ensures)
     (have_texts c.args.told.now c.args.count c.args.read.cells c.args.read.places c.requires.read))
+
+pub fits_table-fits-requires-clause-chunks : goal.fits_table-fits-requires-clause-chunks
+fits_table-fits-requires-clause-chunks c =
+    places_count c.args.told.now c.args.count c.args.read.cells c.args.read.places c.requires.read ∙ ap length (sym c.as_slice-2.ensures)
+
+pub fits_table-fits-requires-clause-placed : goal.fits_table-fits-requires-clause-placed
+fits_table-fits-requires-clause-placed c = places_fit c.args.told.now c.args.count c.args.read.cells c.args.read.places c.requires.read
+
+pub fits_table-fits-requires-clause-small : goal.fits_table-fits-requires-clause-small
+fits_table-fits-requires-clause-small c = sizes_fit c.args.told.now c.args.count c.args.read.cells c.args.read.places c.requires.read
 
 pub returns-clause-found : goal.returns-clause-found
 returns-clause-found c =
