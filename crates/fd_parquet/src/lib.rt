@@ -16,8 +16,6 @@ mod pages;
 mod reading;
 mod rows;
 mod same;
-#[cfg(test)]
-mod tests;
 mod writing;
 
 pub use fault::FileFault;

@@ -2,11 +2,11 @@ ghost use Rattle.std.specs.Prelude.{◌≡◌, All, IfOk, length};
 ghost use Rattle.fd_kinds.specs.Parts.{IsWithin};
 ghost use Rattle.fd_parquet.specs.Files.{IsSmall};
 
-use crate::{FileFault, FileTable, read_file, write_file};
 use fd_column::{ColumnPart, Columns, PartBuilder};
 use fd_kinds::{
     Bytes, Items, Labels, NoMemory, Numbered, Pair, Row, Stack, Text, compare_rows, row_bytes,
 };
+use fd_parquet::{FileFault, read_file, write_file};
 use std::alloc::Global;
 use std::cmp::Ordering;
 use std::test::Fail;
@@ -173,17 +173,17 @@ fn a_table_is_written(rt: HostRuntime) -> Result<(), Fail> {
     Ok(())
 }
 
-/// The rows of the table of a file, written again.
-fn written_again(read: &FileTable) -> Result<Bytes, NoMemory> {
-    let mut size = 0u64;
-    for at in 0..read.table.len() {
-        let numbered = read.table.row(at)?;
-        size = size.saturating_add(row_bytes(&numbered.row));
+/// Whether two tables have the same numbered rows.
+fn same_rows(one: &ColumnPart, other: &ColumnPart) -> Result<bool, NoMemory> {
+    if one.len() != other.len() {
+        return Ok(false);
     }
-    if size >= 1 << 29 {
-        return Err(NoMemory);
+    for at in 0..one.len() {
+        if one.row(at)? != other.row(at)? {
+            return Ok(false);
+        }
     }
-    write_file(&read.table, read.lo, read.hi)
+    Ok(true)
 }
 
 #[test]
@@ -193,57 +193,24 @@ fn a_file_is_read(rt: HostRuntime) -> Result<(), Fail> {
         assert!(rt; false);
         return Ok(());
     };
-    let expected = table(alloc)?;
-    assert_eq!(rt; read.lo, 6);
-    assert_eq!(rt; read.hi, 9);
-    assert_eq!(rt; read.table.len(), 2);
-    assert!(rt; read.table.row(0)? == expected.row(0)?);
-    assert!(rt; read.table.row(1)? == expected.row(1)?);
+    assert_eq!(rt; (read.lo, read.hi), (6, 9));
+    assert!(rt; same_rows(&read.table, &table(alloc)?)?);
     Ok(())
 }
 
-/// Whether the bytes are refused, or the file of another table.
-fn is_refused_or_another(alloc: Global, bytes: &[u8]) -> Result<bool, NoMemory> {
-    match read_file(alloc, bytes) {
-        Ok(read) => Ok(written_again(&read)?.as_slice() == bytes),
-        Err(FileFault::NoMemory) => Err(NoMemory),
-        Err(_) => Ok(true),
+/// Whether the first bytes of a file, which are not all, are refused.
+fn is_cut_refused(alloc: Global, file: &[u8], end: usize) -> bool {
+    if end >= file.len() {
+        return false;
     }
-}
-
-/// Whether the file with the lowest or the highest bit of a byte changed is refused, or the file of
-/// another table.
-fn is_exact_at(alloc: Global, at: usize) -> Result<bool, NoMemory> {
-    let mut bytes = FILE;
-    if at >= FILE.len() {
-        return Ok(false);
-    }
-    for change in [0x01, 0x80] {
-        bytes[at] = FILE[at] ^ change;
-        if !is_refused_or_another(alloc, bytes.as_slice())? {
-            return Ok(false);
-        }
-    }
-    Ok(true)
-}
-
-#[test]
-fn a_changed_byte_is_refused_or_spells_another_table(rt: HostRuntime) -> Result<(), Fail> {
-    let alloc = rt.alloc();
-    for at in 0..FILE.len() {
-        assert!(rt; is_exact_at(alloc, at)?, "{at}");
-    }
-    Ok(())
+    read_file(alloc, &file[..end]).err() == Some(FileFault::Magic)
 }
 
 #[test]
 fn a_file_that_is_cut_is_refused(rt: HostRuntime) {
     let alloc = rt.alloc();
     for end in 0..FILE.len() {
-        assert!(rt;
-            read_file(alloc, &FILE[..end]).err() == Some(FileFault::Magic),
-            "{end}"
-        );
+        assert!(rt; is_cut_refused(alloc, &FILE, end), "{end}");
     }
 }
 
@@ -274,28 +241,39 @@ const CHANGES: [(usize, u8, FileFault); 16] = [
     (719, 0x89, FileFault::Page { column: 13 }),
 ];
 
-/// Whether the file is refused so with these bytes at these places.
-fn is_refused(alloc: Global, changes: &[(usize, u8)], fault: FileFault) -> bool {
-    let mut bytes = FILE;
+/// The file with other bytes at these places.
+fn changed(alloc: Global, file: &[u8], changes: &[(usize, u8)]) -> Result<Bytes, NoMemory> {
+    let mut bytes = Bytes::from_slice(alloc, file)?.into_vec();
     for (at, byte) in changes {
-        if *at >= FILE.len() {
-            return false;
+        if let Some(place) = bytes.get_mut(*at) {
+            *place = *byte;
         }
-        bytes[*at] = *byte;
     }
-    read_file(alloc, bytes.as_slice()).err() == Some(fault)
+    Ok(Bytes::from_vec(bytes))
+}
+
+/// Whether the file with other bytes at these places is refused by this fault.
+fn is_refused(
+    alloc: Global,
+    file: &[u8],
+    changes: &[(usize, u8)],
+    fault: FileFault,
+) -> Result<bool, NoMemory> {
+    let bytes = changed(alloc, file, changes)?;
+    Ok(read_file(alloc, bytes.as_slice()).err() == Some(fault))
 }
 
 #[test]
-fn refusals_tell_what_is_wrong(rt: HostRuntime) {
+fn refusals_tell_what_is_wrong(rt: HostRuntime) -> Result<(), Fail> {
     let alloc = rt.alloc();
     for (at, byte, fault) in CHANGES {
-        assert!(rt; is_refused(alloc, &[(at, byte)], fault), "{at}");
+        assert!(rt; is_refused(alloc, &FILE, &[(at, byte)], fault)?, "{at}");
     }
+    Ok(())
 }
 
 #[test]
-fn a_footer_with_other_lengths_of_chunks_is_refused(rt: HostRuntime) {
+fn a_footer_with_other_lengths_of_chunks_is_refused(rt: HostRuntime) -> Result<(), Fail> {
     let alloc = rt.alloc();
     // The chunk of the names is told to have a byte more, and the next one to begin later.
     let changes = [
@@ -306,5 +284,6 @@ fn a_footer_with_other_lengths_of_chunks_is_refused(rt: HostRuntime) {
         (748, 0x4c),
         (750, 0x8a),
     ];
-    assert!(rt; is_refused(alloc, &changes, FileFault::Page { column: 13 }));
+    assert!(rt; is_refused(alloc, &FILE, &changes, FileFault::Page { column: 13 })?);
+    Ok(())
 }

@@ -6,7 +6,7 @@ use Rattle.fd_kinds.specs.declared.row.Numbered.{Numbered}
 use Rattle.fd_kinds.specs.Parts.{IsWithin}
 use Rattle.fd_kinds.specs.RowSize.{row_size}
 use Rattle.fd_parquet.specs.Files.{IsSmall}
-use Rattle.fd_parquet.proofs.tests.table_of.Goals as goal
+use Rattle.file_tests.proofs.files.table_of.Goals as goal
 
 two : (a b : Numbered) (none one both : List Numbered) → none ≡ [] → one ≡ none ++ a ∷ [] → both ≡ one ++ b ∷ [] → both ≡ a ∷ b ∷ []
 two a b none one both e0 e1 e2 = e2 ∙ ap (λ (xs : List Numbered). xs ++ b ∷ []) (e1 ∙ ap (λ (xs : List Numbered). xs ++ a ∷ []) e0)
