@@ -214,6 +214,68 @@ fn a_file_that_is_cut_is_refused(rt: HostRuntime) {
     }
 }
 
+/// The file with other bytes at these places.
+fn changed(alloc: Global, file: &[u8], changes: &[(usize, u8)]) -> Result<Bytes, NoMemory> {
+    let mut bytes = Bytes::from_slice(alloc, file)?.into_vec();
+    for (at, byte) in changes {
+        if let Some(place) = bytes.get_mut(*at) {
+            *place = *byte;
+        }
+    }
+    Ok(Bytes::from_vec(bytes))
+}
+
+/// Whether bytes are refused, or the file of other rows than these or of another range.
+fn is_refused_or_another(alloc: Global, bytes: &[u8], rows: &ColumnPart) -> Result<bool, NoMemory> {
+    match read_file(alloc, bytes) {
+        Ok(read) => {
+            let same = same_rows(&read.table, rows)?;
+            Ok(!same || read.lo != 6 || read.hi != 9)
+        }
+        Err(FileFault::NoMemory) => Err(NoMemory),
+        Err(_) => Ok(true),
+    }
+}
+
+/// The same of the file with this bit of the byte at a place changed.
+fn is_told_apart(
+    alloc: Global,
+    file: &[u8],
+    at: usize,
+    bit: u8,
+    rows: &ColumnPart,
+) -> Result<bool, NoMemory> {
+    let Some(byte) = file.get(at) else {
+        return Ok(false);
+    };
+    let bytes = changed(alloc, file, &[(at, *byte ^ bit)])?;
+    is_refused_or_another(alloc, bytes.as_slice(), rows)
+}
+
+/// Whether this is so at each place.
+fn are_told_apart(
+    alloc: Global,
+    file: &[u8],
+    bit: u8,
+    rows: &ColumnPart,
+) -> Result<bool, NoMemory> {
+    for at in 0..file.len() {
+        if !is_told_apart(alloc, file, at, bit, rows)? {
+            return Ok(false);
+        }
+    }
+    Ok(true)
+}
+
+#[test]
+fn a_changed_byte_is_refused_or_the_file_of_another_table(rt: HostRuntime) -> Result<(), Fail> {
+    let alloc = rt.alloc();
+    let rows = table(alloc)?;
+    assert!(rt; are_told_apart(alloc, &FILE, 0x01, &rows)?);
+    assert!(rt; are_told_apart(alloc, &FILE, 0x80, &rows)?);
+    Ok(())
+}
+
 /// One byte of the file changed: its place, the byte, and the fault.
 const CHANGES: [(usize, u8, FileFault); 16] = [
     // The magics.
@@ -240,17 +302,6 @@ const CHANGES: [(usize, u8, FileFault); 16] = [
     (226, 0x7f, FileFault::Page { column: 13 }),
     (719, 0x89, FileFault::Page { column: 13 }),
 ];
-
-/// The file with other bytes at these places.
-fn changed(alloc: Global, file: &[u8], changes: &[(usize, u8)]) -> Result<Bytes, NoMemory> {
-    let mut bytes = Bytes::from_slice(alloc, file)?.into_vec();
-    for (at, byte) in changes {
-        if let Some(place) = bytes.get_mut(*at) {
-            *place = *byte;
-        }
-    }
-    Ok(Bytes::from_vec(bytes))
-}
 
 /// Whether the file with other bytes at these places is refused by this fault.
 fn is_refused(
