@@ -1,6 +1,6 @@
 -- Rows that are built one after the other from their cells.
-use Rattle.std.proofs.Common.{◌≡◌, ℕ, zero, suc, ◌+◌, ◌-◌, ◌<◌, ◌≤◌, ◌^◌, Bool, false, ℤ, pos, List, [], ◌∷◌, ◌++◌, length, take, get_or, refl, sym, ap, ◌∙◌, subst, arith, length-append}
-use Rattle.std.specs.Prelude.{Some, All, IsSorted, slice_get, unwrap_or}
+use Rattle.std.proofs.Common.{◌≡◌, ℕ, zero, suc, ◌+◌, ◌-◌, ◌<◌, ◌≤◌, ◌^◌, Bool, false, pos, List, [], ◌∷◌, ◌++◌, length, take, get_or, refl, sym, ap, ◌∙◌, subst, arith, length-append}
+use Rattle.std.specs.Prelude.{Some, All, IsSorted, slice_get}
 use Rattle.std.specs.Ordering.{is_lt}
 use Rattle.std.proofs.lemmas.List.{take_more, take_all}
 use Rattle.std.proofs.lemmas.List.Kept.{IsSortedBy-push}
@@ -14,6 +14,7 @@ use Rattle.fd_footer.specs.declared.footer.Column.{Column}
 use Rattle.fd_parquet.specs.Files.{IsWithin}
 use Rattle.fd_parquet.specs.Refusals.{AreRows, HaveTexts, BuildsRows}
 use Rattle.fd_parquet.specs.Rows.{cell_in, number_of, row_in, MayFollow}
+use Rattle.fd_parquet.proofs.Injective.{some_is, number_is}
 use Rattle.fd_parquet.proofs.RowsBack.{row_back, number_back, all_there}
 
 abbrev pub is_below : Numbered → Numbered → Bool
@@ -28,13 +29,6 @@ rows_none columns cells lo hi = record {
 }
 
 -- ---- the row at a place
-
-number_is : (m n : ℕ) → pos m ≡ pos n → m ≡ n
-number_is m n e = ap mag e
-  where
-    mag : ℤ → ℕ
-    mag (pos k) = k
-    mag other = 0
 
 row_at : (rows : List Numbered) (at : ℕ) (d : Numbered) → at < length rows → slice_get rows at ≡ Some (get_or rows at d)
 row_at rows at d lt = slice_get-get_or rows at d lt
@@ -104,10 +98,7 @@ no_order columns cells lo hi at built next (d ∷ ds) builds texts lt are told i
     none (subst (λ x. MayFollow (slice_get built (length built - 1)) x) (sym same) (subst (λ xs. MayFollow (slice_get xs (length xs - 1)) n) (sym b) f))
   where
     get_or_from : (xs : List Numbered) (k : ℕ) (d e : Numbered) → k < length xs → get_or xs k d ≡ get_or xs k e
-    get_or_from xs k d e lt = same_some (get_or xs k d) (get_or xs k e) (sym (slice_get-get_or xs k d lt) ∙ slice_get-get_or xs k e lt)
-      where
-        same_some : (x y : Numbered) → Some x ≡ Some y → x ≡ y
-        same_some x y e = ap (λ o. unwrap_or o x) e
+    get_or_from xs k d e lt = some_is (get_or xs k d) (get_or xs k e) (sym (slice_get-get_or xs k d lt) ∙ slice_get-get_or xs k e lt)
 
 -- ---- one more row
 

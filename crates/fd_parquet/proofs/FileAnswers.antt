@@ -20,7 +20,8 @@ use Rattle.fd_parquet.specs.Files.{places_from, footer_at}
 use Rattle.fd_parquet.specs.Refusals.{IsRefused, Gives, HasTable, AreParts, TellsOrRefuses, told_of}
 use Rattle.fd_parquet.proofs.FooterSpells.{footer_spelled}
 use Rattle.fd_parquet.proofs.OwnLaws.{columns_own}
-use Rattle.fd_parquet.proofs.ReadFiles.{parts_table, parts_tell, not_some}
+use Rattle.fd_parquet.proofs.Injective.{some_is, not_some}
+use Rattle.fd_parquet.proofs.ReadFiles.{parts_table, parts_tell}
 
 -- an answer is no refusal
 pub never_fails : {X : Type 0} (x : X) (k : ℕ) → IsRefused {A = X} (Page k) (Ok x) → ⊥
@@ -54,14 +55,7 @@ read_table body footer told rows lo hi cells places rest is p same =
     subst (λ (q : Parts). HasTable told q.0.0 q.0.1 footer rows lo hi) (sym same) (parts_table body footer rows lo hi told is p)
 
 pub some_table : {T Y : Type 0} (f : T → Y) (o : Option T) (t : T) (y : Y) → option_map f o ≡ Some y → o ≡ Some t → f t ≡ y
-some_table f o t y e is = unsome (f t) y (ap (option_map f) (sym is) ∙ e)
-  where
-    or : {A : Type 0} → A → Option A → A
-    or x None = x
-    or x (Some y) = y
-
-    unsome : {A : Type 0} (x y : A) → Some x ≡ Some y → x ≡ y
-    unsome x y e = ap (or x) e
+some_table f o t y e is = some_is (f t) y (ap (option_map f) (sym is) ∙ e)
 
 pub no_table : {T Y : Type 0} (f : T → Y) (o : Option T) (y : Y) → option_map f o ≡ Some y → o ≡ None → ⊥
 no_table f o y e is = not_some y (ap (option_map f) (sym is) ∙ e)

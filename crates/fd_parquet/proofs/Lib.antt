@@ -7,6 +7,7 @@ pub mod FileAnswers
 pub mod FileLaws
 pub mod FooterSpells
 pub mod FramingLaws
+pub mod Injective
 pub mod MagicLaws
 pub mod OneChunk
 pub mod OneCoded

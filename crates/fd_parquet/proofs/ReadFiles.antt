@@ -2,7 +2,6 @@
 use Rattle.std.proofs.Common.{◌≡◌, ◌≢◌, ℕ, suc, ◌+◌, ◌<◌, ◌^◌, inl, inr, Bool, true, false, ℤ, pos, negsuc, List, [], ◌∷◌, ◌++◌, length, map, Option, Some, None, Result, Ok, Err, refl, sym, ap, ◌∙◌, subst, arith, rules, true≢false, ◌==◌}
 use Rattle.std.specs.Prelude.{All, IsUtf8, Decides, unwrap_or}
 use Rattle.std.specs.List.{AllZip, concat}
-use Rattle.std.specs.Int.Signed.{mag}
 use Rattle.std.proofs.lemmas.List.{append-nil, length-map}
 use Rattle.std.proofs.lemmas.List.Elements.{All-nil, All-cons, All-head, All-tail}
 use Rattle.fd_kinds.specs.declared.row.Numbered.{Numbered}
@@ -32,6 +31,7 @@ use Rattle.fd_parquet.specs.Refusals.{HasMagic, Holds, TellsTree, TellsTable, Is
 use Rattle.fd_parquet.proofs.ColumnLaws.{cells_length}
 use Rattle.fd_parquet.proofs.FileLaws.{total_is, placed_all, places_length}
 use Rattle.fd_parquet.proofs.FooterSpells.{footer_spelled}
+use Rattle.fd_parquet.proofs.Injective.{not_some, number_is}
 use Rattle.fd_parquet.proofs.MagicLaws.{holds_magic}
 use Rattle.fd_parquet.proofs.OneChunk.{chunk_fits}
 use Rattle.fd_parquet.proofs.OwnLaws.{columns_own, chunked_names}
@@ -324,11 +324,8 @@ module _ (bytes body footer : List ℕ) (holds : Holds bytes body footer) (one :
   footer_refuses (Page k) some f = absurd f
   footer_refuses NoMemory some f = absurd (some refl)
 
-  none_is : {A : Type 0} (x : A) → Some x ≡ None → ⊥
-  none_is x e = search (rules, e)
-
   some_none : {A P : Type 0} {o : Option A} {x : A} → o ≡ Some x → o ≡ None → P
-  some_none {x = x} s n = absurd (none_is x (sym s ∙ n))
+  some_none {x = x} s n = absurd (not_some x (sym n ∙ s))
 
   pub footer_only : (X : Type 0) (fault other : FileFault) → IsFooterFault footer fault → ((v : Value) → Spells footer v → TellsOrRefuses v (Err fault)) → Refuses bytes other → IsRefused {A = X} other (Err fault)
   footer_only X Magic other f only r = absurd f
@@ -415,13 +412,7 @@ same_range lo hi low high e =
 pub rows_here : (columns : List FileColumn) (cells : List (List Cell)) (lo hi low high : ℕ) (rows : List Numbered) → low ≡ lo → high ≡ hi → AreRows columns cells low high rows → AreRows columns cells lo hi rows
 rows_here columns cells lo hi low high rows l h are = subst (λ n. AreRows columns cells n hi rows) l (subst (λ n. AreRows columns cells low n rows) h are)
 
-pub not_some : {A : Type 0} (x : A) → None ≡ Some x → ⊥
-not_some x e = search (rules, e)
-
 -- ---- the answer about the parts
-
-pos_is : (m n : ℕ) → pos m ≡ pos n → m ≡ n
-pos_is m n e = ap (λ z. mag z) e
 
 module _ (body footer : List ℕ) (told : FooterTable)
     (law : (rows : List Numbered) (lo hi : ℕ) (places : List Chunk) → IsFooterOf footer rows lo hi places → have_text_names (map file_column (columns_of rows)) ≡ true → told ≡ told_of rows lo hi) where
@@ -430,7 +421,7 @@ module _ (body footer : List ℕ) (told : FooterTable)
 
   pub count_is : (count : ℕ) (rows : List Numbered) (lo hi : ℕ) → told.rows ≡ pos count → AreParts body footer rows lo hi → length rows ≡ count
   count_is count rows lo hi counted p =
-      pos_is (length rows) count (sym (ap (λ (t : FooterTable). t.rows) (told_is rows lo hi p)) ∙ counted)
+      number_is (length rows) count (sym (ap (λ (t : FooterTable). t.rows) (told_is rows lo hi p)) ∙ counted)
 
   pub begins : (count : ℕ) (rows : List Numbered) (lo hi : ℕ) → told.rows ≡ pos count → (p : AreParts body footer rows lo hi)
       → BeginsColumns told.pages count 4 told.columns body (map (λ c. cells_of c rows) (columns_of rows)) (places_from 4 p.chunks) []

@@ -11,6 +11,7 @@ use Rattle.fd_pages.specs.declared.cell.Cell.{Cell}
 use Rattle.fd_pages.specs.declared.cell.Cell.TheVariants.{Absent, Whole, Bytes}
 use Rattle.fd_parquet.specs.Columns.{file_cell, cells_of, column_at, column_count}
 use Rattle.fd_parquet.proofs.ColumnLaws.{cell_there, column_there, cells_length, names_length}
+use Rattle.fd_parquet.proofs.Injective.{some_is}
 
 -- ---- one cell
 
@@ -54,16 +55,13 @@ text_there absent bytes e = absurd (search (rules, e))
 text_there (text b) bytes e = ap (λ o. Bytes (unwrap_or o [])) e
 text_there (whole m) bytes e = absurd (search (rules, e))
 
-same_some : {X : Type 0} (x y : X) → Some x ≡ Some y → x ≡ y
-same_some x y e = ap (λ o. unwrap_or o x) e
-
 -- what is decided of a cell is decided of what stands in its place
 decided : (rows : List Numbered) (k at : ℕ) (cell : Cell) (P : Type 0) (b : Bool) → k < column_count rows → at < length rows
     → (P → file_cell (cell_at rows k at) ≡ cell) → (file_cell (cell_at rows k at) ≡ cell → P) → Decides b P
     → Decides b (slice_get (cells_of (column_at rows k) rows) at ≡ Some cell)
 decided rows k at cell P b lt within to from d = (
   (λ t. cell_there rows k at lt within ∙ ap Some (to (d.0 t))),
-  (λ e. d.1 (from (same_some (file_cell (cell_at rows k at)) cell (sym (cell_there rows k at lt within) ∙ e)))),
+  (λ e. d.1 (from (some_is (file_cell (cell_at rows k at)) cell (sym (cell_there rows k at lt within) ∙ e)))),
 )
 
 pub absent_decided : (rows : List Numbered) (k at : ℕ) (t : Option (List ℕ)) (w : Option ℤ) (b : Bool) → k < column_count rows → at < length rows

@@ -1,6 +1,6 @@
 -- The table of rows with these cells and this footer.
 use Rattle.std.proofs.Common.{◌≡◌, ℕ, ◌<◌, ◌≤◌, ◌^◌, Bool, true, false, List, map, Option, Some, None, Result, Ok, Err, refl, sym, ap, true≢false, rules}
-use Rattle.std.specs.Prelude.{All, Decides, IfOk, IfSome, IsSorted, option_map, unwrap_or}
+use Rattle.std.specs.Prelude.{All, Decides, IfOk, IfSome, IsSorted, option_map}
 use Rattle.fd_kinds.specs.declared.row.Numbered.{Numbered}
 use Rattle.fd_column.specs.Cells.{columns_of}
 use Rattle.fd_column.specs.Numbering.{numbered_cmp}
@@ -68,6 +68,3 @@ kept_gives (Ok (Some f)) fits P rows lo hi found none d p = λ i. Some (found.1 
 pub table_fits : (told : FooterTable) (cells : List (List Cell)) (places : List Chunk) (footer : List ℕ) (rows : List Numbered) (lo hi : ℕ) → HasTable told cells places footer rows lo hi
     → FitsTable footer cells places rows lo hi
 table_fits told cells places footer rows lo hi has = record { each = has.are.have.each; names = has.names; footer_is = has.footer_is }
-
-pub some_is : {A : Type 0} (x y : A) → Some x ≡ Some y → x ≡ y
-some_is x y e = ap (λ o. unwrap_or o x) e

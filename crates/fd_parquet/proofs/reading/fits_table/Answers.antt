@@ -1,4 +1,4 @@
-use Rattle.std.proofs.Common.{length, true≢false, sym, ◌∙◌}
+use Rattle.std.proofs.Common.{true≢false, sym, ◌∙◌}
 use Rattle.std.proofs.lemmas.Result.{IfOk-weaker}
 use Rattle.fd_parquet.proofs.ReadFiles.{cells_count}
 use Rattle.fd_parquet.proofs.reading.fits_table.Goals as goal

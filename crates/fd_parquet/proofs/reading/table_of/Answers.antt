@@ -4,8 +4,9 @@ use Rattle.fd_kinds.specs.declared.row.Numbered.{Numbered}
 use Rattle.fd_column.specs.Numbering.{numbered_cmp}
 use Rattle.fd_parquet.specs.Files.{IsWithin}
 use Rattle.fd_parquet.specs.Refusals.{HaveTexts, FitsTable, HasTable, AreRows}
+use Rattle.fd_parquet.proofs.Injective.{some_is}
 use Rattle.fd_parquet.proofs.ReadFiles.{have_texts, places_count, places_fit, sizes_fit, same_range, rows_here}
-use Rattle.fd_parquet.proofs.TableLaws.{TellsItsRows, has_table, fits_when, kept_found, kept_gives, table_fits, some_is}
+use Rattle.fd_parquet.proofs.TableLaws.{TellsItsRows, has_table, fits_when, kept_found, kept_gives, table_fits}
 use Rattle.fd_parquet.proofs.reading.table_of.Goals as goal
 
 pub part_of-requires-clause-texts : goal.part_of-requires-clause-texts
