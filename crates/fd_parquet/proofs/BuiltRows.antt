@@ -1,14 +1,14 @@
 -- Rows that are built one after the other from their cells.
-use Rattle.std.proofs.Common.{◌≡◌, ℕ, zero, suc, ◌+◌, ◌-◌, ◌<◌, ◌≤◌, ◌^◌, Bool, false, pos, List, [], ◌∷◌, ◌++◌, length, take, get_or, refl, sym, ap, ◌∙◌, subst, arith, length-append}
-use Rattle.std.specs.Prelude.{Some, All, IsSorted, slice_get}
+use Rattle.std.proofs.Common.{◌≡◌, ℕ, zero, suc, ◌+◌, ◌-◌, ◌<◌, ◌≤◌, Bool, false, pos, List, [], ◌∷◌, ◌++◌, length, take, get_or, refl, sym, ap, ◌∙◌, subst, arith, length-append}
+use Rattle.std.specs.Prelude.{Some, IsSorted, slice_get}
 use Rattle.std.specs.Ordering.{is_lt}
 use Rattle.std.proofs.lemmas.List.{take_more, take_all}
 use Rattle.std.proofs.lemmas.List.Kept.{IsSortedBy-push}
-use Rattle.std.proofs.lemmas.List.Elements.{All-nil, All-cons, All-head, All-tail, All-push}
+use Rattle.std.proofs.lemmas.List.Elements.{All-nil, All-push}
 use Rattle.std.proofs.lemmas.Option.{slice_get-get_or}
 use Rattle.fd_kinds.specs.declared.row.Row.{Row}
 use Rattle.fd_kinds.specs.declared.row.Numbered.{Numbered}
-use Rattle.fd_column.specs.Numbering.{numbered_cmp, IsNumber}
+use Rattle.fd_column.specs.Numbering.{numbered_cmp}
 use Rattle.fd_pages.specs.declared.cell.Cell.{Cell}
 use Rattle.fd_footer.specs.declared.footer.Column.{Column}
 use Rattle.fd_parquet.specs.Files.{IsWithin}
@@ -125,11 +125,3 @@ pub rows_all : (columns : List Column) (cells : List (List Cell)) (lo hi at : �
     → BuildsRows columns cells lo hi at built → length rows ≡ at → AreRows columns cells lo hi rows → built ≡ rows
 rows_all columns cells lo hi at built rows builds counted are =
     builds.begin rows (omega (arith, counted)) are ∙ take_all at rows (omega (arith, counted))
-
--- numbers in a range below 2^63
-pub numbers_fit : (lo hi : ℕ) (rows : List Numbered) → hi < 2 ^ 63 → All (IsWithin lo hi) rows → All IsNumber rows
-numbers_fit lo hi [] below within = All-nil IsNumber
-numbers_fit lo hi (n ∷ rows) below within =
-    let here : IsWithin lo hi n = All-head (IsWithin lo hi) n rows within in
-    let high : n.number ≤ hi = here.1 in
-    All-cons IsNumber n rows (omega (arith, high, below)) (numbers_fit lo hi rows below (All-tail (IsWithin lo hi) n rows within))

@@ -19,6 +19,7 @@ pub mod PlaceLaws
 pub mod ReadColumns
 pub mod ReadFiles
 pub mod ReadPages
+pub mod RisingLaws
 pub mod RowsBack
 pub mod SameLaws
 pub mod SameTable

@@ -14,6 +14,7 @@ mod labels;
 mod laws;
 mod pages;
 mod reading;
+mod rising;
 mod rows;
 mod same;
 mod writing;

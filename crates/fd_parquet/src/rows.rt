@@ -8,9 +8,10 @@ ghost use Rattle.fd_column.specs.Numbering.{numbered_cmp};
 ghost use Rattle.fd_column.specs.Stacks.{frames_of};
 
 use crate::labels::labels_at;
+use crate::rising::RisingRows;
 use fd_column::{ColumnPart, read_stack, text_of};
 use fd_footer::Column;
-use fd_kinds::{Items, NoMemory, Numbered, NumberedRows, Row, Stack, Text, compare_rows};
+use fd_kinds::{Items, NoMemory, Numbered, Row, Stack, Text};
 use fd_pages::{Cell, CellList};
 use std::alloc::Global;
 
@@ -96,19 +97,6 @@ fn number_at(cells: &[CellList], at: usize, lo: u64, hi: u64) -> Option<u64>
     Some(number)
 }
 
-/// Whether a row may stand behind the last of these.
-fn is_in_order(rows: &[Numbered], next: &Numbered) -> bool
-    ensures { Decides result (MayFollow (slice_get rows.now (length rows.now - 1)) next.now) }
-{
-    if rows.is_empty() {
-        return true;
-    }
-    let last = &rows[rows.len() - 1];
-    compare_rows(&next.row, &last.row)
-        .then(next.number.cmp(&last.number))
-        .is_ge()
-}
-
 /// The row at a place with its number, none where that is out of the range.
 fn numbered_at(
     alloc: Global,
@@ -130,20 +118,6 @@ fn numbered_at(
     Ok(Some(Numbered { number, row }))
 }
 
-/// The rows and one more, none where that may not stand behind them.
-fn with_next(rows: NumberedRows, next: Numbered) -> Result<Option<NumberedRows>, NoMemory>
-    ensures pushed { IfOk result (λ more. IfSome more (λ all. all ≡ rows ++ next ∷ [])) }
-    ensures follows { IfOk result (λ more. IfSome more (λ _. MayFollow (slice_get rows (length rows - 1)) next)) }
-    ensures none { IfOk result (λ more. more ≡ None → MayFollow (slice_get rows (length rows - 1)) next → ⊥) }
-{
-    if !is_in_order(rows.as_slice(), &next) {
-        return Ok(None);
-    }
-    let mut more = rows;
-    more.push(next)?;
-    Ok(Some(more))
-}
-
 /// The `count` rows with these cells, none where they are out of order or a number is out of the
 /// range.
 fn rows_in(
@@ -153,17 +127,18 @@ fn rows_in(
     count: usize,
     lo: u64,
     hi: u64,
-) -> Result<Option<NumberedRows>, NoMemory>
-    requires { HaveTexts columns.now cells.now }
+) -> Result<Option<RisingRows>, NoMemory>
+    requires below { hi < 2 ^ 63 }
+    requires texts { HaveTexts columns.now cells.now }
     ensures found { IfOk result (λ rows. IfSome rows (BuildsRows columns.now cells.now lo hi count)) }
     ensures none { IfOk result (λ found. found ≡ None → (rows : List AnyRow) → length rows ≡ count → AreRows columns.now cells.now lo hi rows → ⊥) }
 {
-    let mut rows = Items::new(alloc);
+    let mut rows = RisingRows::new(alloc);
     for at in 0..count {
         let Some(next) = numbered_at(alloc, columns, cells, at, lo, hi)? else {
             return Ok(None);
         };
-        let Some(more) = with_next(rows, next)? else {
+        let Some(more) = rows.with_next(next)? else {
             return Ok(None);
         };
         rows = more;
@@ -193,6 +168,6 @@ pub(crate) fn part_of(
     let Some(rows) = rows_in(alloc, columns, cells, count, lo, hi)? else {
         return Ok(None);
     };
-    let part = ColumnPart::from_rows(alloc, &rows)?;
+    let part = rows.finish()?;
     Ok(Some(part))
 }

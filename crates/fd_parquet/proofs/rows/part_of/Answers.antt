@@ -4,21 +4,16 @@ use Rattle.fd_kinds.specs.declared.row.Numbered.{Numbered}
 use Rattle.fd_column.specs.Numbering.{numbered_cmp}
 use Rattle.fd_parquet.specs.Files.{IsWithin}
 use Rattle.fd_parquet.specs.Refusals.{BuildsRows}
-use Rattle.fd_parquet.proofs.BuiltRows.{rows_all, numbers_fit}
+use Rattle.fd_parquet.proofs.BuiltRows.{rows_all}
 use Rattle.fd_parquet.proofs.rows.part_of.Goals as goal
 
 pub returns-in_default-clause-only : goal.returns-in_default-clause-only
 returns-in_default-clause-only c = λ rows counted are. absurd (c.in_ok-rows.ensures.none c.in_default.is rows counted are)
 
-pub from_rows-requires-clause-sorted : goal.from_rows-requires-clause-sorted
-from_rows-requires-clause-sorted c =
+pub finish-requires : goal.finish-requires
+finish-requires c =
     let b : BuildsRows c.args.columns.now c.args.cells.now c.args.lo c.args.hi c.args.count c.in-Some.rows = (subst (λ o. IfSome o (BuildsRows c.args.columns.now c.args.cells.now c.args.lo c.args.hi c.args.count)) c.in-Some.is c.in_ok-rows.ensures.found) in
     b.sorted
-
-pub from_rows-requires-clause-numbers : goal.from_rows-requires-clause-numbers
-from_rows-requires-clause-numbers c =
-    let b : BuildsRows c.args.columns.now c.args.cells.now c.args.lo c.args.hi c.args.count c.in-Some.rows = (subst (λ o. IfSome o (BuildsRows c.args.columns.now c.args.cells.now c.args.lo c.args.hi c.args.count)) c.in-Some.is c.in_ok-rows.ensures.found) in
-    numbers_fit c.args.lo c.args.hi c.in-Some.rows c.requires.below b.within
 
 pub returns-clause-within : goal.returns-clause-within
 returns-clause-within c =

@@ -1,4 +1,4 @@
-use Rattle.std.proofs.Common.{◌≡◌, ◌<◌, ◌++◌, ◌∷◌, [], List, pos, length, subst, arith}
+use Rattle.std.proofs.Common.{◌≡◌, ◌<◌, ◌≤◌, ◌++◌, ◌∷◌, [], List, pos, length, subst, arith}
 use Rattle.std.specs.Prelude.{IfSome}
 use Rattle.fd_kinds.specs.declared.row.Numbered.{Numbered}
 use Rattle.fd_parquet.specs.Files.{IsWithin}
@@ -20,7 +20,7 @@ returns-in_default-2-clause-none c = λ _ rows counted are.
     subst (λ o. IfSome o (λ (n : Numbered). number_of (cell_in c.args.cells.now 0 c.loop-at.at) ≡ pos n.number)) c.in-Some.is c.in_ok-next.ensures.number in
     let row : c.in-Some.next.row ≡ row_in c.args.columns.now c.args.cells.now c.loop-at.at =
     subst (λ o. IfSome o (λ (n : Numbered). n.row ≡ row_in c.args.columns.now c.args.cells.now c.loop-at.at)) c.in-Some.is c.in_ok-next.ensures.row in
-    no_order c.args.columns.now c.args.cells.now c.args.lo c.args.hi c.loop-at.at c.loop-at.rows c.in-Some.next rows c.loop-at.invariant c.requires lt are number row (c.in_ok-more.ensures.none c.in_default-2.is)
+    no_order c.args.columns.now c.args.cells.now c.args.lo c.args.hi c.loop-at.at c.loop-at.rows c.in-Some.next rows c.loop-at.invariant c.requires.texts lt are number row (c.in_ok-more.ensures.none c.in_default-2.is)
 
 pub loop-at-preserved : goal.loop-at-preserved
 loop-at-preserved c =
@@ -33,4 +33,10 @@ loop-at-preserved c =
     subst (λ o. IfSome o (λ (all : List Numbered). MayFollow (slice_get c.loop-at.rows (length c.loop-at.rows - 1)) c.in-Some.next)) c.in-Some-2.is c.in_ok-more.ensures.follows in
     let pushed : c.in-Some-2.more ≡ c.loop-at.rows ++ c.in-Some.next ∷ [] =
     subst (λ o. IfSome o (λ (all : List Numbered). all ≡ c.loop-at.rows ++ c.in-Some.next ∷ [])) c.in-Some-2.is c.in_ok-more.ensures.pushed in
-    rows_more c.args.columns.now c.args.cells.now c.args.lo c.args.hi c.loop-at.at c.loop-at.rows c.in-Some-2.more c.in-Some.next c.loop-at.invariant c.requires number within row follows pushed
+    rows_more c.args.columns.now c.args.cells.now c.args.lo c.args.hi c.loop-at.at c.loop-at.rows c.in-Some-2.more c.in-Some.next c.loop-at.invariant c.requires.texts number within row follows pushed
+
+pub with_next-requires : goal.with_next-requires
+with_next-requires c =
+    let within : IsWithin c.args.lo c.args.hi c.in-Some.next = subst (λ o. IfSome o (IsWithin c.args.lo c.args.hi)) c.in-Some.is c.in_ok-next.ensures.within in
+    let high : c.in-Some.next.number ≤ c.args.hi = within.1 in
+    omega (arith, high, c.requires.below)
