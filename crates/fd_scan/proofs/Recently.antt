@@ -1,9 +1,9 @@
 -- Distinct items and the last of them, as items are added.
-use Rattle.std.proofs.Common.{rules, ◌≡◌, true, bytes_eq, List, [], ◌∷◌, ◌++◌, map, sym, ◌∙◌, ap, subst, Some, None}
-use Rattle.std.specs.Prelude.{Option, IfSome}
+use Rattle.std.proofs.Common.{rules, ◌≡◌, Bool, true, bytes_eq, List, [], ◌∷◌, ◌++◌, map, sym, ◌∙◌, ap, subst, Some, None}
+use Rattle.std.specs.Prelude.{Option, IfSome, Decides, unwrap_or}
+use Rattle.std.specs.Ordering.{is_eq}
 use Rattle.std.specs.declared.cmp.Ordering.{Ordering}
-use Rattle.std.specs.declared.cmp.Ordering.TheVariants.{Equal}
-use Rattle.std.specs.Cmp.{IsTotalOrder, then_total, on_total, bool_cmp_total}
+use Rattle.std.specs.Cmp.{IsTotalOrder, Equal-is, tied_itself, then_total, on_total, bool_cmp_total}
 use Rattle.std.specs.Cmp.Lexicographic.{nat_list_cmp_total}
 use Rattle.std.proofs.lemmas.List.{map-append}
 use Rattle.std.proofs.lemmas.Slice.Eq.{bytes_eq-Decides}
@@ -14,20 +14,10 @@ use Rattle.fd_kinds.specs.Meaning.{type_cmp, series_cmp, series_of}
 use Rattle.fd_scan.proofs.LabelKeys.{labels_cmp_exact, labels_cmp_total}
 use Rattle.std.specs.List.{list_any}
 use Rattle.std.specs.BTreeMap.{is_at}
-use Rattle.std.specs.BTreeSet.{insert_key}
 use Rattle.fd_scan.specs.Recents.{AreDistinct}
-use Rattle.fd_kinds.proofs.Distinct.{distinct_push, distinct_present}
+use Rattle.fd_kinds.proofs.Distinct.{distinct_present}
 
 module _ {T : Type 0} {R : T → T → Ordering} (o : IsTotalOrder R) where
-  -- an item that was inserted is the last
-  pub distinct_added : (old new : List T) (last : Option T) (item copy : T) (items : List T)
-      → copy ≡ item → new ≡ insert_key R old item → list_any (is_at (R item)) new ≡ true
-      → AreDistinct R old last items → AreDistinct R new (Some copy) (items ++ item ∷ [])
-  distinct_added old new last item copy items same inserted there before = record {
-    held = inserted ∙ ap (λ ks. insert_key R ks item) before.held ∙ sym (distinct_push R items item);
-    among = ap (λ k. list_any (is_at (R k)) new) same ∙ there;
-  }
-
   -- the last item, once more
   pub distinct_last : (found : List T) (last : Option T) (item : T) (items : List T) → last ≡ Some item → AreDistinct R found last items → AreDistinct R found last (items ++ item ∷ [])
   distinct_last found last item items is before =
@@ -52,8 +42,17 @@ type_cmp_total = search (rules, then_total, on_total, nat_list_cmp_total, bool_c
 pub series_cmp_total : IsTotalOrder series_cmp
 series_cmp_total = search (rules, then_total, on_total, nat_list_cmp_total, labels_cmp_total) depth 30
 
-pub same_series : (s : SeriesName) (row : Row) → bytes_eq s.name row.name ≡ true → labels_cmp s.labels row.labels ≡ Equal → s ≡ series_of row
-same_series s row names tied =
-    let n : s.name ≡ row.name = (bytes_eq-Decides s.name row.name).0 names in
-    let l : s.labels ≡ row.labels = labels_cmp_exact s.labels row.labels tied in
-    λ i. record { name = n i; labels = l i }
+-- a series with the name of a row is the row's exactly where their labels are tied
+pub series_decided : (last : Option SeriesName) (s : SeriesName) (row : Row) (tied : Bool) → last ≡ Some s → bytes_eq s.name row.name ≡ true → tied ≡ is_eq (labels_cmp s.labels row.labels) → Decides tied (last ≡ Some (series_of row))
+series_decided last s row tied here names told = (there, back)
+  where
+    there : tied ≡ true → last ≡ Some (series_of row)
+    there is_tied =
+        let n : s.name ≡ row.name = (bytes_eq-Decides s.name row.name).0 names in
+        let l : s.labels ≡ row.labels = labels_cmp_exact s.labels row.labels ((Equal-is (labels_cmp s.labels row.labels)).0 (sym told ∙ is_tied)) in
+        here ∙ (λ i. Some (record { name = n i; labels = l i }))
+
+    back : last ≡ Some (series_of row) → tied ≡ true
+    back same =
+        let l : s.labels ≡ row.labels = ap (λ o. (unwrap_or o s).labels) (sym here ∙ same) in
+        told ∙ ap (λ labels. is_eq (labels_cmp s.labels labels)) (sym l) ∙ ap is_eq (tied_itself labels_cmp_total s.labels)

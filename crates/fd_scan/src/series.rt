@@ -1,4 +1,4 @@
-ghost use Rattle.std.specs.Prelude.{◌≡◌, ◌<◌, ℕ, true, length, take, List, [], ◌∷◌, ◌++◌, map, All, OnOk, OnErr, IfOk, IfSome, Some, None};
+ghost use Rattle.std.specs.Prelude.{◌≡◌, ◌<◌, ℕ, length, take, List, [], ◌∷◌, ◌++◌, map, All, OnOk, OnErr, IfOk, IfSome, Decides, Some, None};
 ghost use Rattle.fd_kinds.specs.declared.row.Row.{Row};
 ghost use Rattle.fd_kinds.specs.Meaning.{series_of, series_cmp};
 ghost use Rattle.fd_scan.specs.Places.{row_at, rows_at};
@@ -9,7 +9,6 @@ use crate::recent::Recent;
 use fd_column::Columns;
 use fd_kinds::{NoMemory, Row, SeriesName, Share};
 use std::alloc::Global;
-use std::cmp::Ordering;
 use std::collections::BTreeSet;
 
 /// A copy of the name and the labels of the row's series.
@@ -24,12 +23,10 @@ fn series_of(row: &Row) -> Result<SeriesName, NoMemory>
 
 /// Whether the last series is the row's.
 fn is_last(series: &Recent<SeriesName>, row: &Row) -> bool
-    ensures { result ≡ true → series.now.last ≡ Some (series_of row.now) }
+    ensures { Decides result (series.now.last ≡ Some (series_of row.now)) }
 {
     match &series.last {
-        Some(last) => {
-            last.name == row.name && matches!(last.labels.cmp(&row.labels), Ordering::Equal)
-        }
+        Some(last) => last.name == row.name && last.labels.cmp(&row.labels).is_eq(),
         None => false,
     }
 }
@@ -64,7 +61,7 @@ fn series_at<C: Columns>(alloc: Global, columns: &C, at: usize) -> Result<Series
 fn is_same_series<C: Columns>(columns: &C, a: usize, b: usize) -> bool
     requires first { a < length (C.rows columns.now) }
     requires second { b < length (C.rows columns.now) }
-    ensures { result ≡ true → series_of (row_at (C.rows columns.now) a) ≡ series_of (row_at (C.rows columns.now) b) }
+    ensures { Decides result (series_of (row_at (C.rows columns.now) a) ≡ series_of (row_at (C.rows columns.now) b)) }
 {
     has_same_name(columns, a, b) && has_same_labels(columns, a, b)
 }
@@ -73,7 +70,7 @@ fn is_same_series<C: Columns>(columns: &C, a: usize, b: usize) -> bool
 fn is_last_series<C: Columns>(columns: &C, last: Option<usize>, at: usize) -> bool
     requires last { IfSome last (λ place. place < length (C.rows columns.now)) }
     requires at { at < length (C.rows columns.now) }
-    ensures { result ≡ true → last_series (C.rows columns.now) last ≡ last_series (C.rows columns.now) (Some at) }
+    ensures { Decides result (last_series (C.rows columns.now) last ≡ last_series (C.rows columns.now) (Some at)) }
 {
     match last {
         Some(last) => is_same_series(columns, last, at),

@@ -1,4 +1,4 @@
-ghost use Rattle.std.specs.Prelude.{◌≡◌, ◌<◌, ◌&&◌, ℕ, not, pos, true, length, take, List, [], ◌∷◌, ◌++◌, map, All, OnOk, OnErr, IfOk, Some};
+ghost use Rattle.std.specs.Prelude.{◌≡◌, ◌<◌, ◌&&◌, ℕ, not, pos, length, take, List, [], ◌∷◌, ◌++◌, map, All, OnOk, OnErr, IfOk, Decides, Some};
 ghost use Rattle.fd_kinds.specs.declared.row.Row.{Row};
 ghost use Rattle.fd_kinds.specs.Meaning.{type_of, type_cmp, is_of_type};
 ghost use Rattle.std.specs.Ordering.{int_eq};
@@ -32,7 +32,7 @@ fn type_of(row: &Row) -> Result<ProfileType, NoMemory>
 
 /// Whether the last type is the row's.
 fn is_last(types: &Recent<ProfileType>, row: &Row) -> bool
-    ensures { result ≡ true → types.now.last ≡ Some (type_of row.now) }
+    ensures { Decides result (types.now.last ≡ Some (type_of row.now)) }
 {
     match &types.last {
         Some(kind) => is_of_type(row, kind),
@@ -118,7 +118,7 @@ fn is_type_at<C: Columns>(columns: &C, at: usize, kind: &ProfileType) -> bool
 /// Whether the last type is that of the row at a place.
 fn is_last_at<C: Columns>(types: &Recent<ProfileType>, columns: &C, at: usize) -> bool
     requires { at < length (C.rows columns.now) }
-    ensures { result ≡ true → types.now.last ≡ Some (type_of (row_at (C.rows columns.now) at)) }
+    ensures { Decides result (types.now.last ≡ Some (type_of (row_at (C.rows columns.now) at))) }
 {
     match &types.last {
         Some(kind) => is_type_at(columns, at, kind),

@@ -1,11 +1,7 @@
-use Rattle.std.proofs.Common.{rules, ◌≡◌, ◌∙◌, ap, Some, true, bytes_eq}
-use Rattle.std.specs.declared.cmp.Ordering.TheVariants.{Equal}
-use Rattle.fd_kinds.specs.RowOrder.{labels_cmp}
-use Rattle.fd_scan.proofs.Recently.{same_series}
+use Rattle.std.proofs.Common.{sym, ap, ◌∙◌}
+use Rattle.std.specs.Ordering.{is_eq}
+use Rattle.fd_scan.proofs.Recently.{series_decided}
 use Rattle.fd_scan.proofs.series.is_last.Goals as goal
 
-pub returns-in-Equal : goal.returns-in-Equal
-returns-in-Equal c =
-    let names : bytes_eq c.in-Some.last.name c.args.row.now.name ≡ true = search rules in
-    let tied : labels_cmp c.in-Some.last.labels c.args.row.now.labels ≡ Equal = search rules in
-    λ _. c.in-Some.is ∙ ap Some (same_series c.in-Some.last c.args.row.now names tied)
+pub returns-then-eq : goal.returns-then-eq
+returns-then-eq c = series_decided c.args.series.now.last c.in-Some.last c.args.row.now c.is_eq.result c.in-Some.is (sym c.eq.ensures ∙ c.if-eq.true) (c.is_eq.ensures ∙ ap is_eq c.cmp.ensures)
