@@ -49,7 +49,7 @@ def sealed_over_loose(program):
     per_write = {}
     for count in (15, 16):
         writes = seconds(program, write * count)
-        per_write[count] = max(seconds(program, write * count + merge * 1000) - writes, 1e-9) / count
+        per_write[count] = max(seconds(program, write * count + merge * 10_000) - writes, 1e-9) / count
     return per_write[16] / per_write[15]
 
 
@@ -61,11 +61,11 @@ def main():
         print(f'{count} status requests: {count / took:.0f}/s')
     per_write, per_row = {}, {}
     for count in (100, 1000, 10000):
-        writes = max(seconds(program, WRITE * count) - start, 1e-9)
+        writes = max(seconds(program, WRITE * count, runs=20) - start, 1e-9)
         per_write[count] = writes / count
         print(f'{count} writes: {count / writes:.0f}/s')
         for name, query in QUERIES.items():
-            times = max(400_000 // count, 400)
+            times = max(4_000_000 // count, 2000)
             took = max(seconds(program, WRITE * count + query * times) - start - writes, 1e-9)
             print(f'  {name}: {times / took:.0f}/s over {2 * count} rows')
             if name == 'merge':
