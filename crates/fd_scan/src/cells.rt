@@ -2,10 +2,9 @@ ghost use Rattle.std.specs.Prelude.{◌≡◌, ◌<◌, true, length, IfOk, Deci
 ghost use Rattle.fd_column.specs.Cells.{column_texts, is_text_column};
 ghost use Rattle.fd_scan.specs.Places.{row_at, text_of, has_text};
 
-use fd_column::{Columns, Dictionary};
+use fd_column::{Columns, Dictionary, text_of};
 use fd_kinds::{Labels, NoMemory, Stack, Text};
 use std::alloc::Global;
-use std::str;
 
 /// The places of the columns that each table has.
 pub const NAME: usize = 1;
@@ -37,22 +36,12 @@ pub fn text_column<C: Columns>(columns: &C, column: usize) -> &Dictionary
     }
 }
 
-/// A copy of the text.
-pub fn text_from(alloc: Global, bytes: &[u8]) -> Result<Text, NoMemory>
-    ensures { IfOk result (λ text. text ≡ bytes.now) }
-{
-    match str::from_utf8(bytes) {
-        Ok(text) => Text::of(alloc, text),
-        Err(_) => Err(NoMemory),
-    }
-}
-
 /// A copy of the text of a cell, the empty one where it is absent.
 fn cell_text(alloc: Global, cells: &Dictionary, at: usize) -> Result<Text, NoMemory>
     ensures { IfOk result (λ text. text ≡ text_of cells.now at) }
 {
     match cells.cell(at) {
-        Some(bytes) => text_from(alloc, bytes),
+        Some(bytes) => text_of(alloc, bytes),
         None => Ok(Text::new(alloc)),
     }
 }

@@ -9,9 +9,9 @@ ghost use Rattle.fd_scan.specs.Occurring.{any_cell, column_labels, label_at, lab
 ghost use Rattle.fd_scan.specs.Places.{rows_at};
 ghost use Rattle.fd_scan.specs.Undone.{undone};
 
-use crate::cells::{text_column, text_from};
+use crate::cells::text_column;
 use crate::names::{add_noted, take_out};
-use fd_column::{Columns, Dictionary};
+use fd_column::{Columns, Dictionary, text_of};
 use fd_kinds::{Items, NoMemory, Text, Texts};
 use std::alloc::Global;
 use std::collections::BTreeSet;
@@ -67,7 +67,7 @@ fn add_where_there(
     ensures undone { undone names.new.keys noted.new ≡ undone names.old.keys noted.old }
 {
     if any_cell(cells, places) {
-        let text = text_from(noted.allocator(), name)?;
+        let text = text_of(noted.allocator(), name)?;
         return add_noted(names, noted, &text);
     }
     Ok(())

@@ -4,9 +4,8 @@ ghost use Rattle.fd_kinds.specs.Pairs.{text_cmp};
 ghost use Rattle.fd_column.specs.Dictionaries.{index_in};
 ghost use Rattle.fd_scan.specs.Seen.{SeesTexts, is_seen, seen_more, text_at, texts_at};
 
-use crate::cells::text_from;
 use crate::sets::add_copy;
-use fd_column::Dictionary;
+use fd_column::{Dictionary, text_of};
 use fd_kinds::{NoMemory, Text};
 use std::alloc::Global;
 use std::collections::BTreeSet;
@@ -63,7 +62,7 @@ fn add_cell(
     ensures err { OnErr result (found.new.keys ≡ found.old.keys) }
 {
     match cells.cell(at) {
-        Some(bytes) => add_copy(found, &text_from(alloc, bytes)?),
+        Some(bytes) => add_copy(found, &text_of(alloc, bytes)?),
         None => Ok(()),
     }
 }
