@@ -7,7 +7,7 @@ use Rattle.std.proofs.Math.Seq.{take-append-add}
 use Rattle.std.proofs.KnownBytes.{Appends-trans, Appends-nil}
 use Rattle.std.specs.declared.option.Option.{Option}
 use Rattle.std.specs.Io.KnownBytes.{Appends}
-use Rattle.fd_kinds.specs.Counts.{Rose}
+use Rattle.fd_lists.specs.Counts.{Rose}
 use Rattle.fd_kinds.specs.declared.row.Row.{Row}
 use Rattle.fd_kinds.specs.declared.query.Query.{Query}
 use Rattle.fd_kinds.specs.declared.store.Seen.{Seen}

@@ -2,7 +2,7 @@
 use Rattle.std.specs.Prelude.{◌≡◌, ℕ, ℤ, pos, negsuc, ◌-◌, ◌^◌, ◌&&◌, nat_lt, Bool, List, Option, Some, None, Result, Ok, Err, MatchBool, codes, bytes_eq, if◌then◌else◌}
 use Rattle.std.specs.List.Sorted.{IsPermutation}
 use Rattle.std.specs.Str.Parse.{digits_value}
-use Rattle.fd_kinds.specs.Digits.{is_size}
+use Rattle.fd_lists.specs.Digits.{is_size}
 use Rattle.fd_kinds.specs.declared.kinds.Pair.{Pair}
 use Rattle.fd_kinds.specs.declared.query.Selector.{Selector}
 use Rattle.fd_kinds.specs.declared.raw.RawBody.{RawBody}

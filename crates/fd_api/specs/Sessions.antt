@@ -1,7 +1,7 @@
 -- A session: requests, what each did to the store, the bytes sent for it, and the end.
 use Rattle.std.specs.Prelude.{◌≡◌, ℕ, ◌-◌, ◌<◌, ◌≤◌, ◌⊎◌, ◌==◌, ◌||◌, Bool, true, false, List, [], ◌∷◌, ◌++◌, Option, Result, MatchOption, length, take, ⊤}
 use Rattle.std.specs.Io.KnownBytes.{Appends}
-use Rattle.fd_kinds.specs.Counts.{Rose}
+use Rattle.fd_lists.specs.Counts.{Rose}
 use Rattle.fd_kinds.specs.declared.row.Row.{Row}
 use Rattle.fd_kinds.specs.declared.query.Query.{Query}
 use Rattle.fd_kinds.specs.declared.store.Seen.{Seen}

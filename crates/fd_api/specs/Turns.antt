@@ -1,7 +1,7 @@
 -- One turn of a session: what reading, handling and replying once leaves, and whether the session ends with it.
 use Rattle.std.specs.Prelude.{◌≡◌, ℕ, ◌⊎◌, ◌||◌, Bool, true, if◌then◌else◌, List, [], ◌∷◌, ◌++◌, Option, Some, None, Result, Ok, Err}
 use Rattle.std.specs.Io.KnownBytes.{Keeps, Appends}
-use Rattle.fd_kinds.specs.Counts.{Rose}
+use Rattle.fd_lists.specs.Counts.{Rose}
 use Rattle.fd_kinds.specs.declared.row.Row.{Row}
 use Rattle.fd_kinds.specs.declared.query.Query.{Query}
 use Rattle.fd_kinds.specs.declared.store.Seen.{Seen}

@@ -1,7 +1,7 @@
 ghost use Rattle.std.specs.Prelude.{◌≡◌, ◌≢◌, ◌⊎◌, false, IfOk, IsTrue, MatchResult};
 ghost use Rattle.fd_http.specs.declared.request.Request.{Request};
 ghost use Rattle.fd_api.specs.Asks.{Asks};
-ghost use Rattle.fd_kinds.specs.Counts.{Rose};
+ghost use Rattle.fd_lists.specs.Counts.{Rose};
 ghost use Rattle.fd_http.specs.Replies.{CanBeSent, is_made_status};
 ghost use Rattle.fd_api.specs.Replies.{IsReply, done, refusal, not_allowed, short, status_of};
 ghost use Rattle.fd_api.specs.Handles.{Does, Handles};

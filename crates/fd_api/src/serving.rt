@@ -1,5 +1,5 @@
 ghost use Rattle.std.specs.Prelude.{◌≡◌, ◌||◌, true, false, ℕ, List, IsNone, unwrap_or};
-ghost use Rattle.fd_kinds.specs.Counts.{Rose};
+ghost use Rattle.fd_lists.specs.Counts.{Rose};
 ghost use Rattle.fd_device.specs.Streams.{PutCause};
 ghost use Rattle.fd_http.specs.Replies.{CanBeSent, reply_bytes};
 ghost use Rattle.fd_api.specs.Replies.{IsSent, closing};

@@ -9,7 +9,7 @@ use Rattle.std.proofs.lemmas.Cmp.{tied_itself}
 use Rattle.std.proofs.lemmas.List.Elements.{All-nil, All-push, All-head, All-tail, All-cons, All-replicate, All-get_or}
 use Rattle.std.proofs.lemmas.Option.{slice_get-map, slice_get_within, get_or_from_slice_get}
 use Rattle.std.proofs.lemmas.List.Sums.{fold-append}
-use Rattle.fd_kinds.specs.Pairs.{text_cmp}
+use Rattle.fd_lists.specs.Texts.{text_cmp}
 use Rattle.fd_column.specs.Dictionaries.{Cells, picked, cells_of, pick_in, pick_of, with_cell, entries_of, entry_at, index_in, IsDictionary}
 use Rattle.fd_column.proofs.DictionaryLaws.{pick_inside, picked_again, picked_more, picked_new, cells_more, pick_in_push}
 

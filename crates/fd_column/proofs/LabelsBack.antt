@@ -14,7 +14,7 @@ use Rattle.fd_kinds.specs.declared.labels.Labels.{Labels}
 use Rattle.fd_kinds.specs.Labels.{are_labels, is_before}
 use Rattle.fd_kinds.specs.LabelMaps.{value_of}
 use Rattle.fd_kinds.specs.LabelsOf.{with_pairs}
-use Rattle.fd_kinds.specs.Pairs.{text_cmp}
+use Rattle.fd_lists.specs.Texts.{text_cmp}
 use Rattle.fd_kinds.proofs.LabelOrder.{tail, first_before, before_more, absent_before}
 use Rattle.fd_kinds.proofs.RowLaws.{same_labels_of_pairs}
 use Rattle.fd_column.specs.Cells.{names_in}

@@ -4,7 +4,7 @@ use Rattle.std.specs.Ordering.{is_eq}
 use Rattle.std.specs.BTreeMap.{BTreeMap, get_by}
 use Rattle.std.specs.declared.vec.Vec.{Vec}
 use Rattle.std.specs.declared.alloc.Global.{Global}
-use Rattle.fd_kinds.specs.Pairs.{text_cmp}
+use Rattle.fd_lists.specs.Texts.{text_cmp}
 
 -- the cells of a column of texts, absent ones among them
 abbrev pub Cells : Type 0

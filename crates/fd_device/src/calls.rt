@@ -2,7 +2,7 @@ ghost use Rattle.std.specs.Prelude.{◌≡◌, IsTrue, ◌↔◌, Contains};
 ghost use Rattle.std.specs.Bool.{OnTrue, OnFalse};
 ghost use Rattle.fd_device.specs.Causes.{Rose, next_count};
 
-use fd_kinds::Items;
+use fd_lists::Items;
 
 /// The numbers, from 1, of the calls that are to fail.
 pub type Calls = Items<u64>;

@@ -5,7 +5,7 @@ ghost use Rattle.fd_device.specs.Streams.{FitsPiece, TakesBytes, TakenCause, Put
 use crate::calls::Schedule;
 use crate::source::copy_front;
 use crate::{Calls, Put, Sink, Source, Taken};
-use fd_kinds::{Bytes, NoMemory};
+use fd_lists::{Bytes, NoMemory};
 use std::alloc::Global;
 use std::marker::Model;
 

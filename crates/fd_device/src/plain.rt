@@ -4,7 +4,7 @@ ghost use Rattle.fd_device.specs.Streams.{PutsBytes, PutCause};
 
 use crate::source::copy_front;
 use crate::{Put, Sink, Source, Taken};
-use fd_kinds::{Bytes, NoMemory};
+use fd_lists::{Bytes, NoMemory};
 use std::alloc::Global;
 use std::marker::Model;
 

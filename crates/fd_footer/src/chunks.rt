@@ -9,7 +9,7 @@ use crate::fields::{
 };
 use crate::schema::type_number;
 use crate::{Chunk, Column, ColumnType, Pages};
-use fd_kinds::NoMemory;
+use fd_lists::NoMemory;
 use fd_thrift::{Tree, TreeField, TreeFields, Trees};
 use std::alloc::Global;
 

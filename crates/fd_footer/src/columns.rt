@@ -8,7 +8,7 @@ ghost use Rattle.fd_footer.specs.Tabled.{is_type as is_type_number, is_repetitio
 use crate::lookup::{number, text};
 use crate::own::are_own;
 use crate::{Column, ColumnType, Columns};
-use fd_kinds::{Items, NoMemory, Text};
+use fd_lists::{Items, NoMemory, Text};
 use fd_thrift::Tree;
 use std::alloc::Global;
 

@@ -2,7 +2,7 @@ ghost use Rattle.std.specs.Prelude.{◌≡◌, IfOk};
 ghost use Rattle.fd_thrift.specs.Values.{whole32, whole64, binary, list, struct as structure};
 ghost use Rattle.fd_thrift.specs.View.{view, field_view, items_view, fields_view};
 
-use fd_kinds::NoMemory;
+use fd_lists::NoMemory;
 use fd_thrift::{Bytes, Tree, TreeField, TreeFields, Trees};
 use std::alloc::Global;
 

@@ -1,4 +1,4 @@
-use fd_kinds::{Items, Text};
+use fd_lists::{Items, Text};
 
 /// What a column's cells hold (Parquet's physical types INT64 and BYTE_ARRAY).
 #[derive(Clone, Copy, Debug, PartialEq, Eq)]

@@ -12,7 +12,7 @@ use crate::entries::read_entries;
 use crate::lookup::{number, trees};
 use crate::shape::has_shape;
 use crate::{FooterFault, FooterTable};
-use fd_kinds::NoMemory;
+use fd_lists::NoMemory;
 use fd_thrift::{ThriftFault, Tree, read};
 use std::alloc::Global;
 

@@ -5,7 +5,7 @@ ghost use Rattle.fd_footer.specs.Tables.{type_number as number_of_type, repetiti
 
 use crate::fields::{binary_field, struct_tree, whole32_field};
 use crate::{Column, ColumnType};
-use fd_kinds::NoMemory;
+use fd_lists::NoMemory;
 use fd_thrift::{Tree, Trees};
 use std::alloc::Global;
 

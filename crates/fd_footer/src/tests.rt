@@ -4,7 +4,7 @@ ghost use Rattle.fd_footer.specs.Footers.{IsWritable};
 use crate::{
     Chunk, Column, ColumnType, Footer, FooterFault, FooterTable, Pages, read_footer, write_footer,
 };
-use fd_kinds::{Items, Text};
+use fd_lists::{Items, Text};
 use std::alloc::{AllocError, Global};
 
 /// Three rows of a required column `a` of numbers and an optional column `b` of texts.

@@ -9,7 +9,7 @@ use crate::chunks::group_tree;
 use crate::fields::{binary_field, list_field, struct_tree, whole32_field, whole64_field};
 use crate::schema::schema_trees;
 use crate::{Footer, Pages};
-use fd_kinds::{Bytes, NoMemory};
+use fd_lists::{Bytes, NoMemory};
 use fd_thrift::{Tree, Trees, write};
 use std::alloc::Global;
 

@@ -1,6 +1,6 @@
 ghost use Rattle.std.specs.Prelude.{◌≡◌, [], ◌++◌, ◌+◌, ◌≤◌, length, drop, IsOk, IfOk, OnOk, OnErr};
 
-use fd_kinds::NoMemory;
+use fd_lists::NoMemory;
 use std::alloc::Global;
 use std::marker::Model;
 

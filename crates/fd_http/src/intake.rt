@@ -8,7 +8,7 @@ use crate::front::FrontSearch;
 use crate::head::{body_len, read_head};
 use crate::{Arrived, Inbox, Request, RequestFault};
 use fd_device::{Source, Taken};
-use fd_kinds::Bytes;
+use fd_lists::Bytes;
 use std::alloc::Global;
 
 const LONGEST_FRONT: usize = 16_384;

@@ -1,7 +1,7 @@
 -- A run of the program: its words, its session, its status and the line on the error sink.
 use Rattle.std.specs.Prelude.{◌≡◌, ℕ, ◌++◌, ◌∷◌, [], ◌⊎◌, List, Option, codes}
 use Rattle.std.specs.Io.KnownBytes.{Keeps, Appends}
-use Rattle.fd_kinds.specs.Counts.{Rose}
+use Rattle.fd_lists.specs.Counts.{Rose}
 use Rattle.fd_kinds.specs.History.{History, Writes, Reads, Stands}
 use Rattle.fd_http.specs.Replies.{AppendsFront}
 use Rattle.fd_api.specs.declared.note.Note.{Note}

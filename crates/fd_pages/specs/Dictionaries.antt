@@ -3,7 +3,7 @@
 use Rattle.std.specs.Prelude.{◌≡◌, ℕ, ◌<◌, ◌≤◌, ◌^◌, pos, Bool, true, false, List, [], ◌∷◌, ◌++◌, length, map, slice_get, Some, All}
 use Rattle.std.specs.List.{AllZip, flat_map}
 use Rattle.std.specs.List.Sorted.{IsStrictlySortedBy}
-use Rattle.fd_kinds.specs.Pairs.{text_cmp}
+use Rattle.fd_lists.specs.Texts.{text_cmp}
 use Rattle.fd_thrift.specs.Values.{Value, whole32, struct, no_fields, field}
 use Rattle.fd_thrift.specs.Spelling.{spelling}
 use Rattle.fd_hybrid.specs.Spelling.{IsSpelling}

@@ -1,4 +1,4 @@
-use fd_kinds::{Bytes, Items};
+use fd_lists::{Bytes, Items};
 
 /// What the cells of a column are: the physical types INT64 and BYTE_ARRAY of Apache Parquet.
 #[derive(Clone, Copy, Debug, PartialEq, Eq)]

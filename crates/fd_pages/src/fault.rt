@@ -1,4 +1,4 @@
-use fd_kinds::NoMemory;
+use fd_lists::NoMemory;
 
 /// Why no page is read.
 #[derive(Clone, Copy, Debug, PartialEq, Eq)]

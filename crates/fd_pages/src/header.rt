@@ -5,7 +5,7 @@ ghost use Rattle.fd_pages.specs.Pages.{page_header, data_page_header, header_byt
 ghost use Rattle.fd_pages.specs.Reading.{fault_of};
 
 use crate::PageFault;
-use fd_kinds::{Bytes, NoMemory};
+use fd_lists::{Bytes, NoMemory};
 use fd_thrift::{ThriftFault, Tree, TreeField, read, write};
 use std::alloc::Global;
 

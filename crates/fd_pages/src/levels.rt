@@ -6,7 +6,7 @@ ghost use Rattle.fd_pages.specs.Pages.{Gives};
 
 use crate::{Cell, PageFault};
 use fd_hybrid::{HybridFault, Values, pack, unpack};
-use fd_kinds::{Bytes, NoMemory};
+use fd_lists::{Bytes, NoMemory};
 use std::alloc::Global;
 
 /// The definition level of a cell.

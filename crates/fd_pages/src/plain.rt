@@ -3,7 +3,7 @@ ghost use Rattle.std.specs.Int.{w32, w64, cast_signed};
 ghost use Rattle.fd_pages.specs.Reading.{Answers, Reads, number_at, sized_at, value_at, cell_at, cells_at, ended};
 
 use crate::{Cell, CellKind, CellList, PageFault};
-use fd_kinds::{Bytes, Items};
+use fd_lists::{Bytes, Items};
 use std::alloc::Global;
 
 /// The number in the first four bytes, the lowest first, and the bytes behind them.

@@ -3,7 +3,7 @@ ghost use Rattle.fd_pages.specs.declared.cell.Cell.TheVariants.{Absent, Whole, B
 ghost use Rattle.fd_pages.specs.declared.cell.CellKind.TheVariants as kinds;
 
 use crate::{Cell, CellKind, Cells, PageFault, read_page, write_page};
-use fd_kinds::{Bytes, Items, NoMemory};
+use fd_lists::{Bytes, Items, NoMemory};
 use std::alloc::Global;
 
 /// The page of an optional BYTE_ARRAY column with the cells absent, `a`, `b`.

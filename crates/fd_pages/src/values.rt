@@ -2,7 +2,7 @@ ghost use Rattle.std.specs.Prelude.{◌≡◌, ◌++◌, ◌<◌, ◌^◌, lengt
 ghost use Rattle.fd_pages.specs.Columns.{Fits, sized, plain, plain_values};
 
 use crate::Cell;
-use fd_kinds::{Bytes, NoMemory};
+use fd_lists::{Bytes, NoMemory};
 
 /// Adds bytes with their length before them.
 pub(crate) fn put_sized(out: &mut Bytes, bytes: &[u8]) -> Result<(), NoMemory>

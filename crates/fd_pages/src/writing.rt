@@ -6,7 +6,7 @@ use crate::header::header;
 use crate::levels::level_runs;
 use crate::values::{put_sized, put_values};
 use crate::{Cell, CellKind, Cells};
-use fd_kinds::{Bytes, NoMemory};
+use fd_lists::{Bytes, NoMemory};
 use std::alloc::Global;
 
 /// The body of a page of a required column.

@@ -8,7 +8,7 @@ use Rattle.fd_kinds.specs.declared.kinds.Pair.{Pair}
 use Rattle.fd_kinds.specs.declared.row.Numbered.{Numbered}
 use Rattle.fd_kinds.specs.Labels.{are_labels, is_before, is_empty}
 use Rattle.fd_kinds.specs.LabelMaps.{value_of}
-use Rattle.fd_kinds.specs.Pairs.{text_cmp}
+use Rattle.fd_lists.specs.Texts.{text_cmp}
 use Rattle.fd_column.specs.Cells.{Column, number, name, sample_type, sample_unit, period_type, period_unit, timestamp, stack, period, duration, value, label, pprof_label, cell_of, label_cell, column_name, column_names}
 use Rattle.fd_column.specs.Stacks.{AreShort}
 use Rattle.fd_column.specs.Texts.{IsTextPair, HasTexts, AreTexts}

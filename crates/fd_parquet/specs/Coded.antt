@@ -3,7 +3,7 @@ use Rattle.std.specs.Prelude.{◌≡◌, ℕ, ◌+◌, ◌<◌, ◌≤◌, ◌^�
 use Rattle.std.specs.List.{AllZip, flat_map}
 use Rattle.fd_kinds.specs.Parts.{IsWithin}
 use Rattle.fd_kinds.specs.Meaning.{distinct}
-use Rattle.fd_kinds.specs.Pairs.{text_cmp}
+use Rattle.fd_lists.specs.Texts.{text_cmp}
 use Rattle.fd_kinds.specs.declared.row.Numbered.{Numbered}
 use Rattle.fd_column.specs.Cells.{Column, column_name, columns_of}
 use Rattle.fd_column.specs.Numbering.{numbered_cmp}

@@ -9,7 +9,7 @@ use Rattle.std.specs.Ordering.{is_eq}
 use Rattle.std.specs.Cmp.Lexicographic.{nat_list_cmp_total}
 use Rattle.std.proofs.lemmas.Cmp.{tied_itself}
 use Rattle.std.proofs.lemmas.Option.{slice_get-map}
-use Rattle.fd_kinds.specs.Pairs.{text_cmp}
+use Rattle.fd_lists.specs.Texts.{text_cmp}
 use Rattle.fd_kinds.proofs.LabelOrder.{same_text}
 use Rattle.fd_pprof.specs.Frames.{text}
 use Rattle.fd_pprof.specs.Winners.{place_from, text_numbers}

@@ -12,7 +12,7 @@ use Rattle.std.specs.Cmp.{unsigned_tied}
 use Rattle.std.proofs.lemmas.Bool.{and_parts}
 use Rattle.std.proofs.lemmas.List.Sums.{sum_by-cons, sum_by_push}
 use Rattle.fd_kinds.specs.declared.kinds.Pair.{Pair}
-use Rattle.fd_kinds.specs.Pairs.{text_cmp}
+use Rattle.fd_lists.specs.Texts.{text_cmp}
 use Rattle.fd_kinds.specs.RowSize.{pair_size}
 use Rattle.fd_kinds.specs.Labels.{are_labels}
 use Rattle.fd_kinds.specs.LabelMaps.{is_kept, value_of, last_value_of, put, in_order}

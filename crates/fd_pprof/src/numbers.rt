@@ -1,6 +1,6 @@
 ghost use Rattle.std.specs.Prelude.{◌≡◌, ℕ, List, IfOk};
 ghost use Rattle.std.specs.BTreeMap.{get};
-ghost use Rattle.fd_kinds.specs.Pairs.{text_cmp};
+ghost use Rattle.fd_lists.specs.Texts.{text_cmp};
 ghost use Rattle.fd_pprof.specs.Winners.{place_from, text_numbers};
 
 use fd_kinds::{Items, NoMemory, Share, Text, Texts};

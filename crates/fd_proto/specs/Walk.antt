@@ -1,6 +1,6 @@
 -- The shapes by the names of the messages.
 use Rattle.std.specs.Prelude.{ℕ, ◌<◌, List, Option, None, Result, Ok, Err, ◌≡◌, ◌≢◌}
-use Rattle.fd_kinds.specs.declared.memory.NoMemory.{NoMemory}
+use Rattle.fd_lists.specs.declared.memory.NoMemory.{NoMemory}
 use Rattle.fd_wire.specs.declared.fault.WireFault.{WireFault}
 use Rattle.fd_wire.specs.declared.fault.WireFault.TheVariants as faults
 use Rattle.fd_wire.specs.declared.field.WireValue.{WireValue}

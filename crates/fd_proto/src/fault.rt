@@ -1,4 +1,4 @@
-use fd_kinds::NoMemory;
+use fd_lists::NoMemory;
 
 /// Why bytes can't be read as a profile's messages.
 #[derive(Clone, Copy, Debug, PartialEq, Eq)]

@@ -4,7 +4,7 @@ ghost use Rattle.fd_proto.specs.Shape.{flaw_between, first_flaw, value_flaw, pac
 ghost use Rattle.fd_proto.specs.Walk.{shape_of, IsFlawAt};
 
 use crate::message::{Holds, Message, held_in};
-use fd_kinds::NoMemory;
+use fd_lists::NoMemory;
 use fd_wire::{Field, WireFault, WireValue, fields, varints};
 use std::alloc::Global;
 

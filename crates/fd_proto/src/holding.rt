@@ -3,7 +3,7 @@ ghost use Rattle.fd_wire.specs.Fields.{IsWithin, IsValueWithin};
 ghost use Rattle.fd_proto.specs.Messages.{whole, wholes, wholes_in, spans, parts, part, message_in};
 
 use crate::Place;
-use fd_kinds::{Items, NoMemory};
+use fd_lists::{Items, NoMemory};
 use fd_wire::{Field, FieldList, Varints, WireFault, WireValue, fields, varints};
 use std::alloc::Global;
 

@@ -6,7 +6,7 @@ ghost use Rattle.fd_proto.specs.Shape.{text_indexes, sample, profile};
 ghost use Rattle.fd_proto.specs.Indexes.{first_indexes, last_indexes};
 
 use crate::holding::{append, parts, whole};
-use fd_kinds::{Items, NoMemory};
+use fd_lists::{Items, NoMemory};
 use fd_wire::{Field, FieldList, Varints};
 use std::alloc::Global;
 

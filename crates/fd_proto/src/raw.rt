@@ -1,5 +1,5 @@
 use crate::Place;
-use fd_kinds::Items;
+use fd_lists::Items;
 use fd_wire::Varints;
 
 /// What a `Profile` of `profile.proto` holds, with its texts by their indexes. Signed numbers stand

@@ -6,7 +6,7 @@ ghost use Rattle.fd_proto.specs.Raw.{raw_type, raw_label, raw_sample, raw_locati
 use crate::holding::{message_between, part, parts, spans, whole, wholes};
 use crate::indexes::{Parts, indexes};
 use crate::{Raw, RawFunction, RawLabel, RawLocation, RawSample, RawType};
-use fd_kinds::{Items, NoMemory};
+use fd_lists::{Items, NoMemory};
 use fd_wire::{Field, FieldList, Varints};
 use std::alloc::Global;
 

@@ -6,7 +6,7 @@ use Rattle.std.specs.Ordering.{is_eq}
 use Rattle.std.specs.Option.{option_or}
 use Rattle.fd_kinds.specs.declared.kinds.Pair.{Pair}
 use Rattle.fd_kinds.specs.Names.{is_label_name}
-use Rattle.fd_kinds.specs.Pairs.{text_cmp}
+use Rattle.fd_lists.specs.Texts.{text_cmp}
 use Rattle.fd_rows.specs.declared.faults.LabelFault.{LabelFault}
 use Rattle.fd_rows.specs.declared.faults.LabelFault.TheVariants.{BadLabelName, LongValue, RepeatedLabel}
 

@@ -3,7 +3,7 @@ ghost use Rattle.std.specs.List.{list_all};
 ghost use Rattle.std.specs.Option.{option_or, option_map};
 ghost use Rattle.std.specs.BTreeSet.{contains};
 ghost use Rattle.fd_kinds.specs.declared.kinds.Pair.{Pair};
-ghost use Rattle.fd_kinds.specs.Pairs.{text_cmp};
+ghost use Rattle.fd_lists.specs.Texts.{text_cmp};
 ghost use Rattle.fd_rows.specs.Labels.{is_long, own_refusal, has_label, label_refusal, is_name, series_name};
 ghost use Rattle.fd_rows.specs.Rows.{series_of};
 ghost use Rattle.fd_rows.specs.Body.{labels_refusal, name_refusal};

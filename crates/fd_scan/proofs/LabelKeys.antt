@@ -11,7 +11,8 @@ use mathlib.Core.HLevel.{Σ_prop_path}
 use Rattle.fd_kinds.specs.Labels.{are_labels}
 use Rattle.fd_kinds.specs.declared.kinds.Pair.{Pair}
 use Rattle.fd_kinds.specs.declared.labels.Labels.{Labels}
-use Rattle.fd_kinds.specs.Pairs.{text_cmp, pair_cmp}
+use Rattle.fd_kinds.specs.Pairs.{pair_cmp}
+use Rattle.fd_lists.specs.Texts.{text_cmp}
 use Rattle.fd_kinds.specs.RowOrder.{labels_cmp}
 
 first_tied : (o p : Ordering) → ordering_then o p ≡ Equal → o ≡ Equal

@@ -14,7 +14,7 @@ use Rattle.fd_kinds.specs.declared.row.Row.{Row}
 use Rattle.fd_kinds.specs.declared.row.Numbered.{Numbered}
 use Rattle.fd_kinds.specs.LabelMaps.{value_of}
 use Rattle.fd_kinds.specs.Meaning.{distinct, label_names}
-use Rattle.fd_kinds.specs.Pairs.{text_cmp}
+use Rattle.fd_lists.specs.Texts.{text_cmp}
 use Rattle.fd_column.specs.Cells.{Column, label, pprof_label, column_name, columns_of, column_names, fixed_columns, names_in, series_pairs, pprof_pairs, column_texts}
 use Rattle.fd_scan.specs.Places.{row_at, rows_at, empty_row}
 use Rattle.fd_scan.specs.Occurring.{any_cell, label_of, label_at, occurs, where_there, where_occurs, where_found, column_label, column_labels}

@@ -7,7 +7,7 @@ use Rattle.fd_kinds.specs.declared.row.Row.{Row}
 use Rattle.fd_kinds.specs.declared.row.Numbered.{Numbered}
 use Rattle.fd_kinds.specs.LabelMaps.{value_of}
 use Rattle.fd_kinds.specs.Meaning.{distinct, values_at, label_values}
-use Rattle.fd_kinds.specs.Pairs.{text_cmp}
+use Rattle.fd_lists.specs.Texts.{text_cmp}
 use Rattle.fd_column.specs.Cells.{label, columns_of, column_texts}
 use Rattle.fd_scan.specs.Places.{row_at, rows_at}
 use Rattle.fd_scan.specs.Seen.{texts_at}

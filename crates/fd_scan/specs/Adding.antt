@@ -3,7 +3,7 @@ use Rattle.std.specs.Prelude.{◌≡◌, ℤ, pos, ◌+ℤ◌, Bool, true, false
 use Rattle.std.specs.Ordering.{is_eq}
 use Rattle.std.specs.BTreeMap.{BTreeMap, IsOrdered, get}
 use Rattle.std.specs.declared.cmp.Ordering.{Ordering}
-use Rattle.fd_kinds.specs.declared.memory.NoMemory.{NoMemory}
+use Rattle.fd_lists.specs.declared.memory.NoMemory.{NoMemory}
 
 -- the new map finds what the old one does
 pub record FindsSame {K X : Type 0} (order : K → K → Ordering) (old new : BTreeMap K X) : Type 0 where

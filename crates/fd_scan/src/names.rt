@@ -1,7 +1,7 @@
 ghost use Rattle.std.specs.Prelude.{◌≡◌, ℕ, List, [], ◌∷◌, ◌++◌, map, take, OnOk, OnErr};
 ghost use Rattle.fd_kinds.specs.declared.row.Row.{Row};
 ghost use Rattle.fd_kinds.specs.Meaning.{distinct, label_names, label_values};
-ghost use Rattle.fd_kinds.specs.Pairs.{text_cmp};
+ghost use Rattle.fd_lists.specs.Texts.{text_cmp};
 ghost use Rattle.fd_scan.specs.Places.{rows_at};
 ghost use Rattle.fd_scan.specs.Undone.{undone};
 

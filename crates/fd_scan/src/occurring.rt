@@ -2,7 +2,7 @@ ghost use Rattle.std.specs.Prelude.{◌≡◌, ◌++◌, List, ℕ, is_some, OnO
 ghost use Rattle.std.specs.Option.{option_copied};
 ghost use Rattle.fd_kinds.specs.declared.row.Row.{Row};
 ghost use Rattle.fd_kinds.specs.Meaning.{distinct, label_names};
-ghost use Rattle.fd_kinds.specs.Pairs.{text_cmp};
+ghost use Rattle.fd_lists.specs.Texts.{text_cmp};
 ghost use Rattle.fd_column.specs.Cells.{column_names};
 ghost use Rattle.fd_column.specs.Dictionaries.{cell_in};
 ghost use Rattle.fd_scan.specs.Occurring.{any_cell, column_labels, label_at, label_of, where_found, where_there};

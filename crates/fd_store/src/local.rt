@@ -6,8 +6,9 @@ ghost use Rattle.fd_part.specs.Parts.{part_meaning};
 
 use fd_answer::answer;
 use fd_compact::compact_full;
-use fd_kinds::{Batch, Held, NoMemory, Query, ReadRefusal, Seen, Stand, Store, WriteRefusal};
-use fd_meaning::order_laws;
+use fd_kinds::{
+    Batch, Held, NoMemory, Query, ReadRefusal, Seen, Stand, Store, WriteRefusal, meaning_laws,
+};
 use fd_part::Part;
 use fd_shelf::{Picked, Shelf};
 use std::marker::Model;
@@ -134,7 +135,7 @@ impl Store for Local {
         let parts = all_parts(&self.shelf)?;
         let answer = answer(query, &parts)?;
         self.shelf.history_laws();
-        order_laws();
+        meaning_laws();
         Ok(Seen { watermark, answer })
     }
 

@@ -6,7 +6,7 @@ ghost use Rattle.fd_wire.specs.Fields.{IsWithin, Gives, fields_at, varints_at};
 use crate::field::field_of;
 use crate::numbers::varint_of;
 use crate::{Field, WireFault};
-use fd_kinds::Items;
+use fd_lists::Items;
 use std::alloc::Global;
 
 /// The fields of a message, in order.

@@ -1,7 +1,7 @@
 use Rattle.std.proofs.Common.{◌≡◌, ◌<◌, ◌-◌, ◌∙◌, cond, ap, sym, arith, List, ℕ, Option, Some}
 use Rattle.std.specs.Ordering.{is_eq}
 use Rattle.std.specs.BTreeMap.{get}
-use Rattle.fd_kinds.specs.Pairs.{text_cmp}
+use Rattle.fd_lists.specs.Texts.{text_cmp}
 use Rattle.fd_pprof.proofs.TextNumbers.{place_step}
 use Rattle.fd_pprof.proofs.numbers.text_places.Goals as goal
 

@@ -1,6 +1,6 @@
 use Rattle.std.proofs.Common.{◌≡◌, ℕ, List, [], take, drop}
 use Rattle.std.specs.BTreeSet.{contains}
-use Rattle.fd_kinds.specs.Pairs.{text_cmp}
+use Rattle.fd_lists.specs.Texts.{text_cmp}
 use Rattle.fd_rows.specs.Labels.{has_label}
 use Rattle.fd_rows.specs.Body.{labels_refusal}
 use Rattle.fd_rows.proofs.checks.check_labels.Given as goal

@@ -2,7 +2,7 @@ use Rattle.std.proofs.Common.{rules, ◌≡◌, ◌∙◌, ◌<◌, ap, sym, len
 use Rattle.std.proofs.lemmas.List.{map_more}
 use Rattle.fd_kinds.specs.declared.kinds.Pair.{Pair}
 use Rattle.fd_kinds.specs.Meaning.{distinct}
-use Rattle.fd_kinds.specs.Pairs.{text_cmp}
+use Rattle.fd_lists.specs.Texts.{text_cmp}
 use Rattle.fd_scan.proofs.names.add_noted_names.Goals as goal
 
 abbrev name_of : Pair → List ℕ

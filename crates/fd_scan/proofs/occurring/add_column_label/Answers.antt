@@ -2,7 +2,7 @@ use Rattle.std.proofs.Common.{rules, ◌≡◌, ◌∙◌, ap, List, Some, ◌++
 use Rattle.std.proofs.lemmas.Result.{on_ok_weaker}
 use Rattle.fd_kinds.specs.declared.row.Numbered.{Numbered}
 use Rattle.fd_kinds.specs.Meaning.{distinct}
-use Rattle.fd_kinds.specs.Pairs.{text_cmp}
+use Rattle.fd_lists.specs.Texts.{text_cmp}
 use Rattle.fd_column.specs.Cells.{column_names, column_texts}
 use Rattle.fd_scan.specs.Occurring.{label_at, where_there}
 use Rattle.fd_scan.proofs.Occurred.{cells_found}

@@ -1,6 +1,6 @@
 use Rattle.std.proofs.Common.{rules, ◌≡◌, ◌<◌, ℕ, List, length, subst, sym, ap, ◌∙◌, append-nil, ◌++◌, take}
 use Rattle.fd_kinds.specs.Meaning.{distinct}
-use Rattle.fd_kinds.specs.Pairs.{text_cmp}
+use Rattle.fd_lists.specs.Texts.{text_cmp}
 use Rattle.fd_scan.specs.Seen.{SeesTexts, texts_at}
 use Rattle.fd_scan.proofs.Outcomes.{on_err}
 use Rattle.fd_scan.proofs.Seeing.{sees_none, texts_more}

@@ -4,7 +4,7 @@ use Rattle.std.specs.Prelude.{flat_map, All}
 use Rattle.fd_kinds.specs.declared.row.Numbered.{Numbered}
 use Rattle.fd_kinds.specs.LabelMaps.{value_of}
 use Rattle.fd_kinds.specs.Meaning.{distinct, values_at}
-use Rattle.fd_kinds.specs.Pairs.{text_cmp}
+use Rattle.fd_lists.specs.Texts.{text_cmp}
 use Rattle.fd_column.specs.Cells.{label, columns_of, column_texts}
 use Rattle.fd_scan.specs.Seen.{texts_at}
 use Rattle.fd_scan.proofs.Valued.{values_more, values_none}

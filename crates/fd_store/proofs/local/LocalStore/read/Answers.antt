@@ -18,7 +18,7 @@ returns-clause-gives c =
       counted,
       c.in_ok-answer.ensures
           ∙ ap (meaning c.args.query.now) (rows_of_picked (λ i. part_meaning i.part) c.in_ok-parts.parts (settled_parts book) c.in_ok-parts.ensures)
-          ∙ c.order_laws.ensures.meaning c.args.query.now (rows_of (rows_in (settled_parts book))) (upto (hist book mark) mark) c.history_laws.ensures.rows
+          ∙ c.meaning_laws.ensures.meaning c.args.query.now (rows_of (rows_in (settled_parts book))) (upto (hist book mark) mark) c.history_laws.ensures.rows
           ∙ ap (λ history. meaning c.args.query.now (upto history mark)) c.self.view_is
           ∙ ap (λ n. meaning c.args.query.now (upto c.args.self.now n)) is_mark,
       refl,

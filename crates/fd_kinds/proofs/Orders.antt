@@ -6,7 +6,8 @@ use Rattle.std.specs.Ordering.{ordering_then, then_cmp, on, bool_cmp}
 use Rattle.std.specs.Cmp.{IsTotalOrder, then_total, on_total, back_total, bool_cmp_total}
 use Rattle.std.specs.Cmp.Lexicographic.{nat_list_cmp_total, lists_total}
 use Rattle.std.specs.FinMap.{IsAntisymmetric, slice_cmp-IsAntisymmetric, nat_cmp-IsAntisymmetric}
-use Rattle.fd_kinds.specs.Pairs.{text_cmp, pair_cmp}
+use Rattle.fd_kinds.specs.Pairs.{pair_cmp}
+use Rattle.fd_lists.specs.Texts.{text_cmp}
 use Rattle.fd_kinds.specs.RowOrder.{labels_cmp}
 use Rattle.fd_kinds.specs.Meaning.{stack_cmp, type_cmp, series_cmp}
 use Rattle.fd_kinds.proofs.RowLaws.{same_labels_of_pairs}

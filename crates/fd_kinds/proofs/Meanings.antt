@@ -15,8 +15,8 @@ use Rattle.fd_kinds.specs.declared.query.Selector.{Selector}
 use Rattle.fd_kinds.specs.declared.query.Window.{Window}
 use Rattle.fd_kinds.specs.Meaning.{is_within, kept_rows, filtered_rows, distinct, has_stack, stack_sum, stack_sums, merge_of, type_of, types_of, label_names, values_at, label_values, series_of, series_names, has_labels, point_at, points_of, range_at, ranges_of, meaning}
 use Rattle.fd_kinds.proofs.Distinct.{same_distinct}
-use Rattle.fd_meaning.proofs.Orders.{text_cmp_total, text_cmp_exact, stack_cmp_total, stack_cmp_exact, labels_cmp_total, labels_cmp_exact, type_cmp_total, type_cmp_exact, series_cmp_total, series_cmp_exact}
-use Rattle.fd_meaning.proofs.Shuffled.{Shuffled, shuffled_from_permutation, filter_shuffled, any_shuffled, value_sum_shuffled}
+use Rattle.fd_kinds.proofs.Orders.{text_cmp_total, text_cmp_exact, stack_cmp_total, stack_cmp_exact, labels_cmp_total, labels_cmp_exact, type_cmp_total, type_cmp_exact, series_cmp_total, series_cmp_exact}
+use Rattle.fd_kinds.proofs.Permutations.{Shuffled, shuffled_from_permutation, filter_shuffled, any_shuffled, value_sum_shuffled}
 
 -- ---- the rows that are kept
 

@@ -1,0 +1,17 @@
+//! Lists, texts and bytes, which contracts see as lists, and what every crate above says of
+//! memory, counts and digits.
+#![tactic(auto)]
+
+mod digits;
+mod items;
+mod memory;
+mod roomy;
+mod share;
+mod text;
+
+pub use digits::read_size;
+pub use items::{Bytes, BytesList, Items};
+pub use memory::NoMemory;
+pub use roomy::Roomy;
+pub use share::Share;
+pub use text::{Text, Texts};
