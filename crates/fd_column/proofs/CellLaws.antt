@@ -9,13 +9,17 @@ use Rattle.fd_kinds.specs.declared.kinds.Pair.{Pair}
 use Rattle.fd_kinds.specs.declared.row.Numbered.{Numbered}
 use Rattle.fd_kinds.specs.LabelMaps.{value_of}
 use Rattle.fd_column.specs.declared.table.Table.{Table}
-use Rattle.fd_column.specs.Dictionaries.{Cells}
+use Rattle.fd_dictionary.specs.Dictionaries.{Cells}
 use Rattle.fd_column.specs.Cells.{Column, label, pprof_label, cell_of, label_cell, fixed_columns, columns_of, meeting, cell_at, text_in, whole_in, names_in, series_pairs, pprof_pairs}
 use Rattle.fd_column.specs.Labelled.{label_column, labelled_cell}
 use Rattle.fd_column.specs.Numbering.{IsNumber}
 use Rattle.fd_column.specs.Tables.{IsTableOf}
-use Rattle.fd_column.proofs.DictionaryLaws.{slice_get_left}
 use Rattle.fd_column.proofs.TableLaws.{whole_back}
+
+pub slice_get_left : {X : Type 0} (xs ys : List X) (at : ℕ) → at < length xs → slice_get (xs ++ ys) at ≡ slice_get xs at
+slice_get_left [] ys at h = absurd (omega (arith, h))
+slice_get_left (x ∷ xs) ys zero h = refl
+slice_get_left (x ∷ xs) ys (suc at) h = slice_get_left xs ys at (omega (arith, h))
 
 pub slice_get_right : {X : Type 0} (xs ys : List X) (at : ℕ) → length xs ≤ at → slice_get (xs ++ ys) at ≡ slice_get ys (at - length xs)
 slice_get_right [] ys at h = ap (slice_get ys) (omega arith)

@@ -7,12 +7,11 @@ use Rattle.fd_kinds.specs.declared.row.Numbered.{Numbered}
 use Rattle.fd_kinds.specs.LabelMaps.{value_of}
 use Rattle.fd_column.specs.declared.labelled.Labelled.{Labelled}
 use Rattle.fd_column.specs.declared.table.Table.{Table}
-use Rattle.fd_column.specs.Dictionaries.{Cells}
+use Rattle.fd_dictionary.specs.Dictionaries.{Cells}
 use Rattle.fd_column.specs.Cells.{Column, label, pprof_label, cell_of, label_cell, columns_of, meeting, text_in, has_texts, names_in, series_pairs, pprof_pairs}
 use Rattle.fd_column.specs.Labelled.{label_column}
 use Rattle.fd_column.specs.Tables.{IsTableOf}
-use Rattle.fd_column.proofs.DictionaryLaws.{slice_get_left}
-use Rattle.fd_column.proofs.CellLaws.{text_of_label, behind, count_is, slice_get_right}
+use Rattle.fd_column.proofs.CellLaws.{text_of_label, behind, count_is, slice_get_left, slice_get_right}
 
 -- the texts of a column by what it is
 abbrev pub texts_of : List Numbered → Option Column → Cells

@@ -3,7 +3,7 @@ use Rattle.std.proofs.Common.{◌≡◌, ℕ, ◌+◌, ◌<◌, List, [], ◌∷
 use Rattle.std.specs.List.{filter_map}
 use Rattle.std.proofs.lemmas.List.Elements.{filter_map-append}
 use Rattle.fd_column.specs.declared.labelled.Labelled.{Labelled}
-use Rattle.fd_column.specs.Dictionaries.{Cells}
+use Rattle.fd_dictionary.specs.Dictionaries.{Cells}
 use Rattle.fd_column.specs.Labelled.{pair_at, pairs_at}
 use Rattle.fd_column.proofs.Steps.{taken}
 

@@ -2,6 +2,7 @@
 use Rattle.std.proofs.Common.{◌≡◌, ℕ, suc, ◌+◌, ◌<◌, get_or, drop, Bool, true, false, cond, List, [], ◌∷◌, ◌++◌, map, length, refl, sym, ◌∙◌, ap, subst, arith}
 use Rattle.std.specs.Prelude.{Option, Some, None, option_map, slice_get, All}
 use Rattle.std.specs.Ordering.{is_eq}
+use Rattle.std.specs.Cmp.{Equal-is}
 use Rattle.std.proofs.lemmas.Option.{same_Some}
 use Rattle.std.proofs.lemmas.List.Elements.{All-nil, All-cons, All-head, All-tail}
 use Rattle.fd_kinds.specs.declared.kinds.Pair.{Pair}
@@ -10,12 +11,11 @@ use Rattle.fd_kinds.specs.LabelMaps.{value_of}
 use Rattle.fd_lists.specs.Texts.{text_cmp}
 use Rattle.fd_column.specs.declared.labelled.Labelled.{Labelled}
 use Rattle.fd_column.specs.declared.table.Table.{Table}
-use Rattle.fd_column.specs.Dictionaries.{Cells}
+use Rattle.fd_dictionary.specs.Dictionaries.{Cells}
 use Rattle.fd_column.specs.Cells.{Column, label, pprof_label, columns_of, names_in, series_pairs, pprof_pairs}
 use Rattle.fd_column.specs.Labelled.{label_column, place_of}
 use Rattle.fd_column.specs.Tables.{IsTableOf}
-use Rattle.fd_column.proofs.DictionaryLaws.{same_text, eq_is}
-use Rattle.fd_column.proofs.NameLaws.{has, HasAll, Covers, names_of, names_cover, value_none}
+use Rattle.fd_column.proofs.NameLaws.{same_text, has, HasAll, Covers, names_of, names_cover, value_none}
 use Rattle.fd_column.proofs.CellLaws.{behind}
 use Rattle.fd_column.proofs.Steps.{dropped}
 
@@ -29,7 +29,7 @@ placed maps more name (m ∷ ms) place h = by (is_eq (text_cmp name m)) refl (pl
 
     by : (b : Bool) → is_eq (text_cmp name m) ≡ b → ((p : ℕ) → place_of name (map (label_column maps) ms) ≡ Some p → slice_get (map label ms ++ more) p ≡ Some (label name)) → cond b (Some 0) (option_map (λ p. suc p) (place_of name (map (label_column maps) ms))) ≡ Some place → slice_get (map label (m ∷ ms) ++ more) place ≡ Some (label name)
     by true t ih h =
-        let same : m ≡ name = sym (same_text name m (eq_is (text_cmp name m) t)) in
+        let same : m ≡ name = sym (same_text name m ((Equal-is (text_cmp name m)).0 t)) in
         subst (λ at. slice_get (map label (m ∷ ms) ++ more) at ≡ Some (label name)) (same_Some 0 place h) (ap (λ n. Some (label n)) same)
     by false t ih h = next (place_of name (map (label_column maps) ms)) refl ih h
 

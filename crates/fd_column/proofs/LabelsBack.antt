@@ -19,8 +19,7 @@ use Rattle.fd_kinds.proofs.LabelOrder.{tail, first_before, before_more, absent_b
 use Rattle.fd_kinds.proofs.RowLaws.{same_labels_of_pairs}
 use Rattle.fd_column.specs.Cells.{names_in}
 use Rattle.fd_column.specs.Labelled.{label_column, label_columns, pair_at, pairs_at, labels_from}
-use Rattle.fd_column.proofs.DictionaryLaws.{same_text}
-use Rattle.fd_column.proofs.NameLaws.{is_under, are_rising, has, HasAll, Covers, names_of, less_from, to_less, rest_rises, first_under, under_more, under_has_not, names_rise, names_cover}
+use Rattle.fd_column.proofs.NameLaws.{same_text, is_under, are_rising, has, HasAll, Covers, names_of, less_from, to_less, rest_rises, first_under, under_more, under_has_not, names_rise, names_cover}
 
 -- the pair of a name, none where the name is absent
 abbrev named : List Pair → List ℕ → Option Pair

@@ -1,8 +1,6 @@
 pub mod CellLaws
-pub mod CellsAlike
-pub mod DictionaryLaws
+pub mod EqualLabels
 pub mod DictionaryOf
-pub mod DictionaryPushes
 pub mod GivenLaws
 pub mod LabelColumns
 pub mod LabelGrowth
@@ -10,7 +8,6 @@ pub mod LabelPlaces
 pub mod LabelsBack
 pub mod NameLaws
 pub mod NamesOf
-pub mod PieceLaws
 pub mod StackLaws
 pub mod Steps
 pub mod TableLaws

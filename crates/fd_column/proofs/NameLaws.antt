@@ -7,6 +7,7 @@ use Rattle.std.specs.declared.cmp.Ordering.TheVariants.{Less, Equal, Greater}
 use Rattle.std.specs.Ordering.{is_eq, is_lt, ordering_reverse}
 use Rattle.std.specs.BTreeSet.{insert_key}
 use Rattle.std.specs.Cmp.Lexicographic.{nat_list_cmp_total}
+use Rattle.std.specs.FinMap.{slice_cmp-IsAntisymmetric, nat_cmp-IsAntisymmetric}
 use Rattle.std.proofs.lemmas.Cmp.{tied_itself}
 use Rattle.std.proofs.lemmas.Grind.{flat_map-append}
 use Rattle.std.proofs.lemmas.List.Sums.{fold-append}
@@ -15,7 +16,9 @@ use Rattle.fd_kinds.specs.declared.kinds.Pair.{Pair}
 use Rattle.fd_kinds.specs.LabelMaps.{value_of}
 use Rattle.fd_lists.specs.Texts.{text_cmp}
 use Rattle.fd_column.specs.Cells.{names_in}
-use Rattle.fd_column.proofs.DictionaryLaws.{same_text}
+
+pub same_text : (x y : List ℕ) → text_cmp x y ≡ Equal → x ≡ y
+same_text = slice_cmp-IsAntisymmetric nat_cmp-IsAntisymmetric
 
 pub less_from : (o : Ordering) → IsTrue (is_lt o) → o ≡ Less
 less_from Less h = refl

@@ -5,7 +5,7 @@ use Rattle.std.proofs.lemmas.List.{map-append, append_assoc}
 use Rattle.fd_kinds.specs.declared.kinds.Pair.{Pair}
 use Rattle.fd_kinds.specs.declared.row.Numbered.{Numbered}
 use Rattle.fd_column.specs.declared.table.Table.{Table}
-use Rattle.fd_column.specs.Dictionaries.{Cells}
+use Rattle.fd_dictionary.specs.Dictionaries.{Cells}
 use Rattle.fd_column.specs.Cells.{label, pprof_label, column_name, fixed_columns, column_names, names_in, series_pairs, pprof_pairs}
 use Rattle.fd_column.specs.Labelled.{label_column}
 use Rattle.fd_column.specs.Tables.{IsTableOf}

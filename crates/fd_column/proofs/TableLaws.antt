@@ -10,7 +10,7 @@ use Rattle.std.proofs.lemmas.Option.{slice_get-map, slice_get-get_or}
 use Rattle.fd_kinds.specs.declared.kinds.Pair.{Pair}
 use Rattle.fd_kinds.specs.declared.row.Numbered.{Numbered}
 use Rattle.fd_column.specs.declared.table.Table.{Table}
-use Rattle.fd_column.specs.Dictionaries.{Cells, cell_in}
+use Rattle.fd_dictionary.specs.Dictionaries.{Cells, cell_in}
 use Rattle.fd_column.specs.Stacks.{stack_bytes, frames_of, AreShort}
 use Rattle.fd_column.specs.Cells.{series_pairs, pprof_pairs}
 use Rattle.fd_column.specs.Labelled.{label_columns, with_value, add_columns, pairs_at}

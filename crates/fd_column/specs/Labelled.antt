@@ -9,7 +9,7 @@ use Rattle.fd_kinds.specs.LabelMaps.{value_of}
 use Rattle.fd_kinds.specs.LabelsOf.{with_pairs}
 use Rattle.fd_lists.specs.Texts.{text_cmp}
 use Rattle.fd_column.specs.declared.labelled.Labelled.{Labelled}
-use Rattle.fd_column.specs.Dictionaries.{Cells, cell_in}
+use Rattle.fd_dictionary.specs.Dictionaries.{Cells, cell_in}
 use Rattle.fd_column.specs.Cells.{names_in}
 
 -- the values of a name

@@ -6,7 +6,7 @@ use Rattle.fd_kinds.specs.declared.row.Row.{Row}
 use Rattle.fd_column.specs.declared.table.Kinds.{Kinds}
 use Rattle.fd_column.specs.declared.table.Wholes.{Wholes}
 use Rattle.fd_column.specs.declared.table.Table.{Table}
-use Rattle.fd_column.specs.Dictionaries.{Cells, cell_in}
+use Rattle.fd_dictionary.specs.Dictionaries.{Cells, cell_in}
 use Rattle.fd_column.specs.Stacks.{stack_bytes, frames_of, AreShort}
 use Rattle.fd_column.specs.Cells.{series_pairs, pprof_pairs, column_names}
 use Rattle.fd_column.specs.Labelled.{label_columns, add_columns, with_value, pairs_at, labels_from}

@@ -4,7 +4,7 @@ ghost use Rattle.fd_column.specs.Numbering.{numbered_cmp, IsNumber};
 
 use crate::cells::{dictionary_of_table, label_column_of_table, text_of_table, whole_of_table};
 use crate::columns::Columns;
-use crate::dictionary::Dictionary;
+use fd_dictionary::Dictionary;
 use crate::label_columns::have_same_cells;
 use crate::names::names_of;
 use crate::read::{labels_of_table, row_of, stack_of_table};

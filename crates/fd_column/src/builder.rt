@@ -3,7 +3,6 @@ ghost use Rattle.fd_kinds.specs.declared.row.Numbered.{Numbered};
 ghost use Rattle.fd_column.specs.Numbering.{numbered_cmp};
 
 use crate::grow::{finished_table, new_table, push_row};
-use crate::growing::Growing;
 use crate::part::ColumnPart;
 use crate::table::Table;
 use crate::texts::row_is_utf8;
@@ -15,7 +14,7 @@ use std::marker::Model;
 /// the rows so far.
 #[derive(Drop)]
 pub struct PartBuilder {
-    table: Table<Growing>,
+    table: Table<DictionaryBuilder>,
 }
 
 impl Model for PartBuilder {

@@ -5,7 +5,7 @@ ghost use Rattle.fd_column.specs.Cells.{cell_at, column_texts, columns_of, is_te
 ghost use Rattle.fd_column.specs.Labelled.{labelled_cell, place_of};
 ghost use Rattle.fd_column.specs.Tables.{rows_of_table, IsGrowing};
 
-use crate::dictionary::Dictionary;
+use fd_dictionary::Dictionary;
 use crate::labelled::Labelled;
 use crate::table::Table;
 use fd_kinds::{Items, Text};

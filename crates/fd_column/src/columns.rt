@@ -6,7 +6,7 @@ ghost use Rattle.fd_column.specs.Cells.{Column, label, columns_of, column_names,
 ghost use Rattle.fd_column.specs.Stacks.{AreShort};
 ghost use Rattle.fd_column.specs.Texts.{AreTexts};
 
-use crate::dictionary::Dictionary;
+use fd_dictionary::Dictionary;
 use fd_kinds::{Labels, NoMemory, Stack, Text, Texts};
 
 /// Numbered rows that are read by columns.

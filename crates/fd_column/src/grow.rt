@@ -3,8 +3,7 @@ ghost use Rattle.fd_column.specs.Labelled.{add_columns, with_value};
 ghost use Rattle.fd_column.specs.Stacks.{stack_bytes, AreShort};
 ghost use Rattle.fd_column.specs.Tables.{IsTableOf, KindsGrowBy, WholesGrowBy, GrowsBy};
 
-use crate::dictionary::Dictionary;
-use crate::growing::Growing;
+use fd_dictionary::{Dictionary, DictionaryBuilder};
 use crate::label_columns::{finished, with_labels};
 use crate::labelled::Labelled;
 use crate::stacks::spelled;
@@ -14,20 +13,20 @@ use std::alloc::Global;
 use std::mem;
 
 /// The columns of no rows.
-pub fn new_table(alloc: Global) -> Table<Growing>
+pub fn new_table(alloc: Global) -> Table<DictionaryBuilder>
     ensures { IsTableOf result [] }
 {
     Table {
         numbers: Items::new(alloc),
         kinds: Kinds {
-            name: Growing::new(alloc),
-            sample_type: Growing::new(alloc),
-            sample_unit: Growing::new(alloc),
-            period_type: Growing::new(alloc),
-            period_unit: Growing::new(alloc),
+            name: DictionaryBuilder::new(alloc),
+            sample_type: DictionaryBuilder::new(alloc),
+            sample_unit: DictionaryBuilder::new(alloc),
+            period_type: DictionaryBuilder::new(alloc),
+            period_unit: DictionaryBuilder::new(alloc),
         },
         labels: Items::new(alloc),
-        stacks: Growing::new(alloc),
+        stacks: DictionaryBuilder::new(alloc),
         pprof_labels: Items::new(alloc),
         wholes: Wholes {
             timestamps: Items::new(alloc),
@@ -39,7 +38,7 @@ pub fn new_table(alloc: Global) -> Table<Growing>
 }
 
 /// Adds the texts of a row. After want of memory the columns are of no use.
-fn push_kinds(kinds: &mut Kinds<Growing>, row: &Row) -> Result<(), NoMemory>
+fn push_kinds(kinds: &mut Kinds<DictionaryBuilder>, row: &Row) -> Result<(), NoMemory>
     ensures { OnOk result (KindsGrowBy row.now kinds.old kinds.new) }
 {
     kinds.name.push_text(row.name.as_bytes())?;
@@ -62,7 +61,7 @@ fn push_wholes(wholes: &mut Wholes, row: &Row) -> Result<(), NoMemory>
 }
 
 /// Adds a stack. A frame of 2^32 bytes or more wants memory.
-fn push_stack(stacks: &mut Growing, alloc: Global, stack: &Stack) -> Result<(), NoMemory>
+fn push_stack(stacks: &mut DictionaryBuilder, alloc: Global, stack: &Stack) -> Result<(), NoMemory>
     ensures stack { OnOk result (stacks.new ≡ stacks.old ++ Some (stack_bytes stack.now) ∷ []) }
     ensures short { OnOk result (AreShort stack.now) }
 {
@@ -72,7 +71,7 @@ fn push_stack(stacks: &mut Growing, alloc: Global, stack: &Stack) -> Result<(), 
 
 /// Adds the labels of a row to the columns of so many rows.
 fn push_labels(
-    columns: &mut Items<Labelled<Growing>>,
+    columns: &mut Items<Labelled<DictionaryBuilder>>,
     labels: &Labels,
     count: usize,
 ) -> Result<(), NoMemory>
@@ -86,7 +85,7 @@ fn push_labels(
 
 /// Adds a row. A frame of 2^32 bytes or more wants memory. After want of memory the columns are of
 /// no use.
-pub fn push_row(table: &mut Table<Growing>, numbered: &Numbered) -> Result<(), NoMemory>
+pub fn push_row(table: &mut Table<DictionaryBuilder>, numbered: &Numbered) -> Result<(), NoMemory>
     ensures grows { OnOk result (GrowsBy numbered.now table.old table.new) }
     ensures short { OnOk result (AreShort numbered.now.row.stack) }
 {
@@ -103,7 +102,7 @@ pub fn push_row(table: &mut Table<Growing>, numbered: &Numbered) -> Result<(), N
 }
 
 /// The columns as they stand. It takes no memory.
-fn finished_kinds(kinds: Kinds<Growing>) -> Kinds<Dictionary>
+fn finished_kinds(kinds: Kinds<DictionaryBuilder>) -> Kinds<Dictionary>
     ensures { result ≡ kinds }
 {
     let Kinds {
@@ -123,7 +122,7 @@ fn finished_kinds(kinds: Kinds<Growing>) -> Kinds<Dictionary>
 }
 
 /// The columns as they stand.
-pub fn finished_table(table: Table<Growing>) -> Result<Table<Dictionary>, NoMemory>
+pub fn finished_table(table: Table<DictionaryBuilder>) -> Result<Table<Dictionary>, NoMemory>
     ensures { IfOk result (λ done. done ≡ table) }
 {
     let mut table = table;

@@ -3,11 +3,10 @@ ghost use Rattle.std.specs.Option.{option_copied};
 ghost use Rattle.std.specs.List.{filter_map};
 ghost use Rattle.fd_kinds.specs.Labels.{are_labels};
 ghost use Rattle.fd_kinds.specs.LabelMaps.{value_of};
-ghost use Rattle.fd_column.specs.Dictionaries.{cell_in};
+ghost use Rattle.fd_dictionary.specs.Dictionaries.{cell_in};
 ghost use Rattle.fd_column.specs.Labelled.{add_column, add_columns, blank, with_value, pair_at, pairs_at, labels_from};
 
-use crate::dictionary::Dictionary;
-use crate::growing::Growing;
+use fd_dictionary::{Dictionary, DictionaryBuilder};
 use crate::labelled::Labelled;
 use crate::stacks::text_of;
 use fd_kinds::{Items, Labels, NoMemory, Pair, Share, Text};
@@ -15,7 +14,7 @@ use std::alloc::Global;
 use std::cmp::Ordering;
 
 /// The place at which a column of this name is missing, none where there is one.
-fn place_for(columns: &[Labelled<Growing>], name: &Text) -> Option<usize>
+fn place_for(columns: &[Labelled<DictionaryBuilder>], name: &Text) -> Option<usize>
     ensures { MatchOption result ((count : ℕ) → add_column count columns.now name.now ≡ columns.now) (λ place. (place ≤ length columns.now) × ((count : ℕ) → add_column count columns.now name.now ≡ insert columns.now place (blank count name.now))) }
 {
     let mut place = 0;
@@ -31,16 +30,16 @@ fn place_for(columns: &[Labelled<Growing>], name: &Text) -> Option<usize>
 
 /// The columns and one of this name, with so many absent cells where it is new.
 fn with_column(
-    columns: Items<Labelled<Growing>>,
+    columns: Items<Labelled<DictionaryBuilder>>,
     name: &Text,
     count: usize,
-) -> Result<Items<Labelled<Growing>>, NoMemory>
+) -> Result<Items<Labelled<DictionaryBuilder>>, NoMemory>
     ensures { IfOk result (λ more. more ≡ add_column count columns name.now) }
 {
     let mut columns = columns.into_vec();
     if let Some(place) = place_for(columns.as_slice(), name) {
         let name = name.share()?;
-        let cells = Growing::absent(name.allocator(), count)?;
+        let cells = DictionaryBuilder::absent(name.allocator(), count)?;
         columns.insert(place, Labelled { name, cells })?;
     }
     Ok(Items::from_vec(columns))
@@ -48,10 +47,10 @@ fn with_column(
 
 /// The columns and one for each name of the pairs.
 fn with_columns(
-    columns: Items<Labelled<Growing>>,
+    columns: Items<Labelled<DictionaryBuilder>>,
     pairs: &[Pair],
     count: usize,
-) -> Result<Items<Labelled<Growing>>, NoMemory>
+) -> Result<Items<Labelled<DictionaryBuilder>>, NoMemory>
     ensures { IfOk result (λ more. more ≡ add_columns count columns pairs.now) }
 {
     let mut more = columns;
@@ -75,9 +74,9 @@ fn value_in<'a>(pairs: &'a [Pair], name: &Text) -> Option<&'a [u8]>
 
 /// Each column and the value of its name.
 fn with_values(
-    columns: Items<Labelled<Growing>>,
+    columns: Items<Labelled<DictionaryBuilder>>,
     pairs: &[Pair],
-) -> Result<Items<Labelled<Growing>>, NoMemory>
+) -> Result<Items<Labelled<DictionaryBuilder>>, NoMemory>
     ensures { IfOk result (λ more. more ≡ map (with_value pairs.now) columns) }
 {
     let mut more = Items::new(columns.allocator());
@@ -92,17 +91,17 @@ fn with_values(
 
 /// The columns of so many rows and of one more, which has these pairs.
 pub fn with_labels(
-    columns: Items<Labelled<Growing>>,
+    columns: Items<Labelled<DictionaryBuilder>>,
     pairs: &[Pair],
     count: usize,
-) -> Result<Items<Labelled<Growing>>, NoMemory>
+) -> Result<Items<Labelled<DictionaryBuilder>>, NoMemory>
     ensures { IfOk result (λ more. more ≡ map (with_value pairs.now) (add_columns count columns pairs.now)) }
 {
     with_values(with_columns(columns, pairs, count)?, pairs)
 }
 
 /// The columns as they stand.
-pub fn finished(columns: Items<Labelled<Growing>>) -> Result<Items<Labelled<Dictionary>>, NoMemory>
+pub fn finished(columns: Items<Labelled<DictionaryBuilder>>) -> Result<Items<Labelled<Dictionary>>, NoMemory>
     ensures { IfOk result (λ done. done ≡ columns) }
 {
     let mut done = Items::new(columns.allocator());

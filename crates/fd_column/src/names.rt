@@ -1,7 +1,7 @@
 ghost use Rattle.std.specs.Prelude.{◌≡◌, ◌++◌, [], ◌∷◌, List, ℕ, IfOk, map, codes};
 ghost use Rattle.fd_column.specs.Cells.{column_name, fixed_columns};
 
-use crate::dictionary::Dictionary;
+use fd_dictionary::Dictionary;
 use crate::labelled::Labelled;
 use crate::table::Table;
 use fd_kinds::{Items, NoMemory, Text, Texts};

@@ -5,7 +5,7 @@ ghost use Rattle.fd_column.specs.Numbering.{numbered_cmp, IsNumber};
 use crate::body::Body;
 use crate::builder::PartBuilder;
 use crate::columns::Columns;
-use crate::dictionary::Dictionary;
+use fd_dictionary::Dictionary;
 use crate::table::Table;
 use fd_kinds::{Labels, NoMemory, Numbered, NumberedRows, Stack, Text, Texts};
 use std::alloc::Global;

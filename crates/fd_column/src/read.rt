@@ -4,7 +4,7 @@ ghost use Rattle.fd_column.specs.Labelled.{pairs_at};
 ghost use Rattle.fd_column.specs.Tables.{rows_of_table, row_at, text_at, number_at, number_in, IsGrowing};
 ghost use Rattle.fd_column.specs.Stacks.{frames_of};
 
-use crate::dictionary::Dictionary;
+use fd_dictionary::Dictionary;
 use crate::label_columns::labels_at;
 use crate::stacks::{read_stack, text_of};
 use crate::table::Table;

@@ -7,7 +7,7 @@ use Rattle.fd_kinds.specs.declared.row.Row.{Row}
 use Rattle.fd_kinds.specs.declared.row.Numbered.{Numbered}
 use Rattle.fd_kinds.specs.declared.labels.Labels.{Labels}
 use Rattle.fd_kinds.specs.LabelMaps.{value_of}
-use Rattle.fd_column.specs.Dictionaries.{cell_in}
+use Rattle.fd_dictionary.specs.Dictionaries.{cell_in}
 use Rattle.fd_column.specs.Cells.{label, label_cell, columns_of, column_names, column_texts, cell_at, meeting, text_in, whole_in, labels_in}
 use Rattle.fd_scan.specs.Places.{row_at, empty_row, text_of}
 

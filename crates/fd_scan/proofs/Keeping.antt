@@ -12,7 +12,7 @@ use Rattle.fd_kinds.specs.declared.query.Selector.{Selector}
 use Rattle.fd_kinds.specs.declared.query.Window.{Window}
 use Rattle.fd_kinds.specs.LabelMaps.{value_of}
 use Rattle.fd_kinds.specs.Meaning.{agrees, is_match, is_within, is_selected}
-use Rattle.fd_column.specs.Dictionaries.{Cells, entries_of, entry_at, index_in}
+use Rattle.fd_dictionary.specs.Dictionaries.{Cells, entries_of, entry_at, index_in}
 use Rattle.fd_column.specs.Cells.{label, columns_of, column_texts}
 use Rattle.fd_scan.specs.Places.{row_at, has_text, has_texts, has_delta, is_in_time, is_entry}
 use Rattle.fd_scan.proofs.EntryLaws.{entry_compares, empty_text}

@@ -9,7 +9,7 @@ use Rattle.std.specs.BTreeMap.{BTreeMap, get}
 use Rattle.std.proofs.lemmas.List.Elements.{All-head, All-tail}
 use Rattle.fd_kinds.specs.declared.row.Numbered.{Numbered}
 use Rattle.fd_kinds.specs.Meaning.{stack_cmp}
-use Rattle.fd_column.specs.Dictionaries.{cell_in, pick_in, entries_of, entry_at, index_in}
+use Rattle.fd_dictionary.specs.Dictionaries.{cell_in, pick_in, entries_of, entry_at, index_in}
 use Rattle.fd_column.specs.Cells.{column_texts}
 use Rattle.fd_column.specs.Stacks.{stack_bytes, frames_of, AreShort}
 use Rattle.fd_column.proofs.StackLaws.{frames_of_stack}

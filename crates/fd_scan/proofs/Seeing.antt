@@ -15,7 +15,7 @@ use Rattle.std.specs.Ordering.{is_eq}
 use Rattle.std.specs.Cmp.Lexicographic.{nat_list_cmp_total}
 use Rattle.fd_kinds.specs.Meaning.{distinct}
 use Rattle.fd_lists.specs.Texts.{text_cmp}
-use Rattle.fd_column.specs.Dictionaries.{Cells, cell_in, pick_in, entries_of, entry_at, index_in}
+use Rattle.fd_dictionary.specs.Dictionaries.{Cells, cell_in, pick_in, entries_of, entry_at, index_in}
 use Rattle.std.specs.Option.{option_and_then}
 use Rattle.fd_scan.specs.Seen.{SeesTexts, is_seen, seen_more, text_at, texts_at}
 use Rattle.fd_kinds.proofs.Distinct.{distinct_present, any_distinct}

@@ -3,7 +3,7 @@ use Rattle.std.specs.Prelude.{◌≡◌, ℕ, ◌<◌, List, length, get_or, sli
 use Rattle.std.specs.BTreeMap.{BTreeMap, get}
 use Rattle.fd_kinds.specs.declared.row.Numbered.{Numbered}
 use Rattle.fd_kinds.specs.Meaning.{stack_cmp}
-use Rattle.fd_column.specs.Dictionaries.{index_in}
+use Rattle.fd_dictionary.specs.Dictionaries.{index_in}
 use Rattle.fd_column.specs.Cells.{column_texts}
 use Rattle.fd_scan.specs.Places.{row_at}
 

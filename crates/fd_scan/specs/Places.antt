@@ -7,7 +7,7 @@ use Rattle.fd_kinds.specs.declared.row.Numbered.{Numbered}
 use Rattle.fd_kinds.specs.declared.query.ProfileType.{ProfileType}
 use Rattle.fd_kinds.specs.declared.query.Window.{Window}
 use Rattle.fd_kinds.specs.Meaning.{is_within}
-use Rattle.fd_column.specs.Dictionaries.{Cells, cell_in}
+use Rattle.fd_dictionary.specs.Dictionaries.{Cells, cell_in}
 
 -- a row without texts, labels and frames, whose numbers are 0
 unfoldable pub empty_row : Row

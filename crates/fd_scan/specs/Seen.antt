@@ -5,7 +5,7 @@ use Rattle.std.specs.List.{list_any}
 use Rattle.std.specs.BTreeMap.{is_at}
 use Rattle.fd_kinds.specs.Meaning.{distinct}
 use Rattle.fd_lists.specs.Texts.{text_cmp}
-use Rattle.fd_column.specs.Dictionaries.{Cells, cell_in, index_in}
+use Rattle.fd_dictionary.specs.Dictionaries.{Cells, cell_in, index_in}
 
 -- whether the entry is known
 abbrev pub is_seen : List Bool → Option ℕ → Bool

@@ -4,7 +4,7 @@ ghost use Rattle.fd_kinds.specs.declared.row.Row.{Row};
 ghost use Rattle.fd_kinds.specs.Meaning.{distinct, label_names};
 ghost use Rattle.fd_lists.specs.Texts.{text_cmp};
 ghost use Rattle.fd_column.specs.Cells.{column_names};
-ghost use Rattle.fd_column.specs.Dictionaries.{cell_in};
+ghost use Rattle.fd_dictionary.specs.Dictionaries.{cell_in};
 ghost use Rattle.fd_scan.specs.Occurring.{any_cell, column_labels, label_at, label_of, where_found, where_there};
 ghost use Rattle.fd_scan.specs.Places.{rows_at};
 ghost use Rattle.fd_scan.specs.Undone.{undone};

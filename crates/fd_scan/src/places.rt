@@ -2,7 +2,7 @@ ghost use Rattle.std.specs.Prelude.{◌≡◌, ◌<◌, ◌&&◌, true, [], leng
 ghost use Rattle.std.specs.List.{list_all};
 ghost use Rattle.fd_kinds.specs.LabelMaps.{value_of};
 ghost use Rattle.fd_kinds.specs.Meaning.{agrees, is_match, is_within, is_selected};
-ghost use Rattle.fd_column.specs.Dictionaries.{index_in};
+ghost use Rattle.fd_dictionary.specs.Dictionaries.{index_in};
 ghost use Rattle.fd_column.specs.Cells.{column_texts, is_text_column};
 ghost use Rattle.fd_scan.specs.Gathers.{counts, is_filtered};
 ghost use Rattle.fd_scan.specs.Places.{row_at, places_of, has_text, has_texts, has_delta, is_in_time, is_entry};

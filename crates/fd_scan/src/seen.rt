@@ -1,7 +1,7 @@
 ghost use Rattle.std.specs.Prelude.{◌≡◌, ◌++◌, ℕ, List, false, take, IfOk, OnOk, OnErr, slice_index_or};
 ghost use Rattle.fd_kinds.specs.Meaning.{distinct};
 ghost use Rattle.fd_lists.specs.Texts.{text_cmp};
-ghost use Rattle.fd_column.specs.Dictionaries.{index_in};
+ghost use Rattle.fd_dictionary.specs.Dictionaries.{index_in};
 ghost use Rattle.fd_scan.specs.Seen.{SeesTexts, is_seen, seen_more, text_at, texts_at};
 
 use crate::sets::add_copy;

@@ -2,7 +2,7 @@ use Rattle.std.proofs.Common.{◌≡◌, take, refl, sym, subst, arith}
 use Rattle.std.specs.Prelude.{All}
 use Rattle.std.proofs.lemmas.List.Elements.{All-push}
 use Rattle.fd_column.specs.declared.labelled.Labelled.{Labelled}
-use Rattle.fd_column.specs.Dictionaries.{Cells, cell_in}
+use Rattle.fd_dictionary.specs.Dictionaries.{Cells, cell_in}
 use Rattle.fd_column.proofs.Steps.{taken, whole_taken}
 use Rattle.fd_column.proofs.label_columns.have_same_cells.Goals as goal
 

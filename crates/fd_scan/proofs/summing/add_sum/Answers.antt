@@ -2,7 +2,7 @@ use Rattle.std.proofs.Common.{rules, ◌≡◌, List, Some, subst, sym}
 use Rattle.std.specs.BTreeMap.{get}
 use Rattle.fd_kinds.specs.declared.row.Numbered.{Numbered}
 use Rattle.fd_kinds.specs.Meaning.{stack_cmp}
-use Rattle.fd_column.specs.Dictionaries.{index_in}
+use Rattle.fd_dictionary.specs.Dictionaries.{index_in}
 use Rattle.fd_column.specs.Cells.{column_texts}
 use Rattle.fd_scan.specs.Known.{KnowsSlots, noted}
 use Rattle.fd_scan.specs.Places.{row_at}

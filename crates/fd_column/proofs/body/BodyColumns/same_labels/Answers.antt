@@ -1,10 +1,10 @@
 use Rattle.std.proofs.Common.{◌≡◌, ◌<◌, length, sym, subst}
 use Rattle.std.specs.Prelude.{All, Decides}
 use Rattle.fd_column.specs.declared.labelled.Labelled.{Labelled}
-use Rattle.fd_column.specs.Dictionaries.{Cells, cell_in}
+use Rattle.fd_dictionary.specs.Dictionaries.{Cells, cell_in}
 use Rattle.fd_column.specs.Cells.{labels_in}
 use Rattle.fd_column.specs.Tables.{row_at, rows_of_table}
-use Rattle.fd_column.proofs.CellsAlike.{same_cells}
+use Rattle.fd_column.proofs.EqualLabels.{same_cells}
 use Rattle.fd_column.proofs.TableLaws.{row_there}
 use Rattle.fd_column.proofs.body.BodyColumns.same_labels.Goals as goal
 

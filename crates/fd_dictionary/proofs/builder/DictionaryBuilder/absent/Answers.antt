@@ -1,6 +1,6 @@
 use Rattle.std.proofs.Common.{◌≡◌, rules, replicate}
-use Rattle.fd_column.proofs.DictionaryPushes.{blank_fine, blank_cells}
-use Rattle.fd_column.proofs.growing.Growing.absent.Goals as goal
+use Rattle.fd_dictionary.proofs.DictionaryPushes.{blank_fine, blank_cells}
+use Rattle.fd_dictionary.proofs.builder.DictionaryBuilder.absent.Goals as goal
 
 pub invariant_of-result : goal.invariant_of-result
 invariant_of-result c =

@@ -1,5 +1,5 @@
-use Rattle.fd_column.proofs.DictionaryPushes.{absent_more}
-use Rattle.fd_column.proofs.growing.Growing.with_absent.Goals as goal
+use Rattle.fd_dictionary.proofs.DictionaryPushes.{absent_more}
+use Rattle.fd_dictionary.proofs.builder.DictionaryBuilder.with_absent.Goals as goal
 
 pub invariant_of-result : goal.invariant_of-result
 invariant_of-result c =

@@ -1,8 +1,8 @@
 use Rattle.std.proofs.Common.{◌∙◌, ◌++◌, ◌∷◌, [], ap, sym}
 use Rattle.std.specs.Prelude.{Some}
-use Rattle.fd_column.specs.Dictionaries.{cells_of}
-use Rattle.fd_column.proofs.DictionaryPushes.{HasMore, known_more, new_more}
-use Rattle.fd_column.proofs.growing.Growing.with_text.Goals as goal
+use Rattle.fd_dictionary.specs.Dictionaries.{cells_of}
+use Rattle.fd_dictionary.proofs.DictionaryPushes.{HasMore, known_more, new_more}
+use Rattle.fd_dictionary.proofs.builder.DictionaryBuilder.with_text.Goals as goal
 
 known : (c : goal.In_ok-push-in-Some) → HasMore c.self.inside.entries (c.self.inside.picks ++ c.in-Some.pick ∷ []) (cells_of c.self.inside.entries c.self.inside.picks) (Some c.args.text.now)
 known c = known_more c.self.inside.entries c.self.inside.picks c.args.text.now c.in-Some.pick (sym c.pick.ensures ∙ c.in-Some.is) c.self.invariant

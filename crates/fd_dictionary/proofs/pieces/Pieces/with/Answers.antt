@@ -1,6 +1,6 @@
 use Rattle.std.proofs.Common.{length, ◌++◌, ◌∷◌, [], ◌∙◌, ap}
-use Rattle.fd_column.proofs.PieceLaws.{cut_push, pieces_push}
-use Rattle.fd_column.proofs.pieces.Pieces.with.Goals as goal
+use Rattle.fd_dictionary.proofs.PieceLaws.{cut_push, pieces_push}
+use Rattle.fd_dictionary.proofs.pieces.Pieces.with.Goals as goal
 
 pub invariant_of-result : goal.invariant_of-result
 invariant_of-result c =

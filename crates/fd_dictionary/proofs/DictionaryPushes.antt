@@ -10,8 +10,8 @@ use Rattle.std.proofs.lemmas.List.Elements.{All-nil, All-push, All-head, All-tai
 use Rattle.std.proofs.lemmas.Option.{slice_get-map, slice_get_within, get_or_from_slice_get}
 use Rattle.std.proofs.lemmas.List.Sums.{fold-append}
 use Rattle.fd_lists.specs.Texts.{text_cmp}
-use Rattle.fd_column.specs.Dictionaries.{Cells, picked, cells_of, pick_in, pick_of, with_cell, entries_of, entry_at, index_in, IsDictionary}
-use Rattle.fd_column.proofs.DictionaryLaws.{pick_inside, picked_again, picked_more, picked_new, cells_more, pick_in_push}
+use Rattle.fd_dictionary.specs.Dictionaries.{Cells, picked, cells_of, pick_in, pick_of, with_cell, entries_of, entry_at, index_in, IsDictionary}
+use Rattle.fd_dictionary.proofs.DictionaryLaws.{pick_inside, picked_again, picked_more, picked_new, cells_more, pick_in_push}
 
 -- the dictionary with one more cell
 pub record HasMore (entries : List (List ℕ)) (picks : List ℕ) (old : Cells) (cell : Option (List ℕ)) : Type 0 where

@@ -1,8 +1,8 @@
 ghost use Rattle.std.specs.Prelude.{◌≡◌, ◌<◌, [], ◌∷◌, ◌++◌, length, slice_get, IfOk};
 ghost use Rattle.std.specs.Option.{option_copied};
-ghost use Rattle.fd_column.specs.Pieces.{start_of};
+ghost use Rattle.fd_dictionary.specs.Pieces.{start_of};
 
-use fd_kinds::{Bytes, Items, NoMemory};
+use fd_lists::{Bytes, Items, NoMemory};
 use std::alloc::Global;
 use std::marker::Model;
 
@@ -23,7 +23,7 @@ pub struct Pieces {
 
 impl Model for Pieces {
     ghost use Rattle.std.specs.Prelude.{List, ℕ};
-    ghost use Rattle.fd_column.specs.Pieces.{pieces_of, AreCut};
+    ghost use Rattle.fd_dictionary.specs.Pieces.{pieces_of, AreCut};
 
     ghost Value = { List (List ℕ) };
 

@@ -5,7 +5,7 @@ use Rattle.std.specs.List.{range_with_len}
 use Rattle.std.proofs.lemmas.Grind.{common_steps}
 use Rattle.std.proofs.lemmas.Option.{slice_get-get_or, slice_get_past}
 use Rattle.std.proofs.lemmas.List.FromFn.{get_or-map-range_with_len, length-map-range_with_len, map-range_with_len_more, fill_by_all}
-use Rattle.fd_column.specs.Pieces.{start_of, piece_at, pieces_of, AreCut}
+use Rattle.fd_dictionary.specs.Pieces.{start_of, piece_at, pieces_of, AreCut}
 
 pub piece_got : (bytes ends : List ℕ) (at : ℕ) → at < length ends → slice_get (pieces_of bytes ends) at ≡ Some (piece_at bytes ends at)
 piece_got bytes ends at h =

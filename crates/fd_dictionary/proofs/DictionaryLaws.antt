@@ -15,7 +15,7 @@ use Rattle.std.proofs.lemmas.Cmp.{tied_itself}
 use Rattle.std.proofs.lemmas.Option.{same_Some}
 use Rattle.std.proofs.lemmas.List.Elements.{All-head, All-tail}
 use Rattle.fd_lists.specs.Texts.{text_cmp}
-use Rattle.fd_column.specs.Dictionaries.{picked, cells_of, pick_in, KnowsPicks}
+use Rattle.fd_dictionary.specs.Dictionaries.{picked, cells_of, pick_in, KnowsPicks}
 
 pub same_text : (x y : List ℕ) → text_cmp x y ≡ Equal → x ≡ y
 same_text = slice_cmp-IsAntisymmetric nat_cmp-IsAntisymmetric

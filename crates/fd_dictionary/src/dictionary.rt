@@ -1,9 +1,9 @@
 ghost use Rattle.std.specs.Prelude.{◌≡◌, Decides, length, slice_get, unwrap_or};
 ghost use Rattle.std.specs.Option.{option_copied};
-ghost use Rattle.fd_column.specs.Dictionaries.{cells_of, cell_in, entries_of, index_in, IsDictionary};
+ghost use Rattle.fd_dictionary.specs.Dictionaries.{cells_of, cell_in, entries_of, index_in, IsDictionary};
 
 use crate::pieces::Pieces;
-use fd_kinds::Items;
+use fd_lists::Items;
 use std::marker::Model;
 
 /// A column of texts, which contracts see as the list of its cells: its distinct texts, and for
@@ -15,7 +15,7 @@ pub struct Dictionary {
 }
 
 impl Model for Dictionary {
-    ghost use Rattle.fd_column.specs.Dictionaries.{Cells, cells_of, IsDictionary};
+    ghost use Rattle.fd_dictionary.specs.Dictionaries.{Cells, cells_of, IsDictionary};
 
     ghost Value = { Cells };
 
@@ -89,7 +89,7 @@ impl Dictionary {
         }
     }
 
-    #[tactic(auto, using(crate::proofs::CellsAlike::same_picks))]
+    #[tactic(auto, using(crate::proofs::EqualCells::same_picks))]
     /// Whether two cells are the same: both with one text, or both absent.
     pub fn is_same(&self, a: usize, b: usize) -> bool
         ensures { Decides result (cell_in self.now a ≡ cell_in self.now b) }

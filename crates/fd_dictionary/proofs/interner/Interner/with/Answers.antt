@@ -1,6 +1,6 @@
 use Rattle.std.proofs.Common.{rules, ◌+◌}
-use Rattle.fd_column.proofs.DictionaryLaws.{knows_push}
-use Rattle.fd_column.proofs.growing.Entries.with.Goals as goal
+use Rattle.fd_dictionary.proofs.DictionaryLaws.{knows_push}
+use Rattle.fd_dictionary.proofs.interner.Interner.with.Goals as goal
 
 pub invariant_of-result : goal.invariant_of-result
 invariant_of-result c =

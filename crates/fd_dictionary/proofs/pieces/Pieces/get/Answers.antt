@@ -1,7 +1,7 @@
 use Rattle.std.proofs.Common.{◌∙◌, ap, sym, rules}
 use Rattle.std.specs.Prelude.{slice_get}
-use Rattle.fd_column.proofs.PieceLaws.{piece_got, no_piece}
-use Rattle.fd_column.proofs.pieces.Pieces.get.Goals as goal
+use Rattle.fd_dictionary.proofs.PieceLaws.{piece_got, no_piece}
+use Rattle.fd_dictionary.proofs.pieces.Pieces.get.Goals as goal
 
 pub returns-then-at-ends : goal.returns-then-at-ends
 returns-then-at-ends c =

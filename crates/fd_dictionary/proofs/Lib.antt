@@ -1,0 +1,4 @@
+pub mod DictionaryLaws
+pub mod DictionaryPushes
+pub mod EqualCells
+pub mod PieceLaws
