@@ -11,8 +11,8 @@ use Rattle.fd_kinds.specs.LabelMaps.{value_of}
 use Rattle.fd_column.specs.declared.table.Table.{Table}
 use Rattle.fd_dictionary.specs.Dictionaries.{Cells}
 use Rattle.fd_column.specs.Cells.{Column, label, pprof_label, cell_of, label_cell, fixed_columns, columns_of, meeting, cell_at, text_in, whole_in, names_in, series_pairs, pprof_pairs}
-use Rattle.fd_column.specs.Labelled.{label_column, labelled_cell}
-use Rattle.fd_column.specs.Numbering.{IsNumber}
+use Rattle.fd_column.specs.LabelColumns.{label_column, labelled_cell}
+use Rattle.fd_column.specs.RowNumbers.{IsNumber}
 use Rattle.fd_column.specs.Tables.{IsTableOf}
 use Rattle.fd_column.proofs.TableLaws.{whole_back}
 

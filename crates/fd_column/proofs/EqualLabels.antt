@@ -8,22 +8,22 @@ use Rattle.std.proofs.lemmas.List.Elements.{All-head, All-tail, All-map}
 use Rattle.fd_kinds.specs.declared.row.Numbered.{Numbered}
 use Rattle.fd_kinds.specs.LabelMaps.{value_of}
 use Rattle.fd_kinds.proofs.RowLaws.{same_labels_of_pairs}
-use Rattle.fd_column.specs.declared.labelled.Labelled.{Labelled}
+use Rattle.fd_column.specs.declared.table.LabelColumn.{LabelColumn}
 use Rattle.fd_column.specs.declared.table.Table.{Table}
 use Rattle.fd_dictionary.specs.Dictionaries.{Cells, cell_in}
 use Rattle.fd_column.specs.Cells.{names_in, series_pairs, labels_in}
-use Rattle.fd_column.specs.Labelled.{label_column, pair_at, pairs_at}
-use Rattle.fd_column.specs.Numbering.{renumber, renumbered}
+use Rattle.fd_column.specs.LabelColumns.{label_column, pair_at, pairs_at}
+use Rattle.fd_column.specs.RowNumbers.{renumber, renumbered}
 use Rattle.fd_column.specs.Tables.{IsTableOf}
-use Rattle.fd_column.proofs.GivenLaws.{there_kept}
+use Rattle.fd_column.proofs.NumberLaws.{there_kept}
 use Rattle.fd_column.proofs.TableLaws.{labels_back, row_labels}
 
 -- ---- rows
 
-abbrev AreSame : ℕ → ℕ → List (Labelled Cells) → Type 0
+abbrev AreSame : ℕ → ℕ → List (LabelColumn Cells) → Type 0
 AreSame a b columns = All (λ c. cell_in c.cells a ≡ cell_in c.cells b) columns
 
-same_pairs : (columns : List (Labelled Cells)) (a b : ℕ) → AreSame a b columns → pairs_at columns a ≡ pairs_at columns b
+same_pairs : (columns : List (LabelColumn Cells)) (a b : ℕ) → AreSame a b columns → pairs_at columns a ≡ pairs_at columns b
 same_pairs [] a b same = refl
 same_pairs (c ∷ cs) a b same =
     let first : pair_at a c ≡ pair_at b c = ap (option_map (λ value. record { name = c.name; value = value })) (All-head (λ x. cell_in x.cells a ≡ cell_in x.cells b) c cs same) in

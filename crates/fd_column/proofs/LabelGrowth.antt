@@ -9,7 +9,7 @@ use Rattle.fd_kinds.specs.declared.kinds.Pair.{Pair}
 use Rattle.fd_kinds.specs.LabelMaps.{value_of}
 use Rattle.fd_lists.specs.Texts.{text_cmp}
 use Rattle.fd_column.specs.Cells.{names_in}
-use Rattle.fd_column.specs.Labelled.{label_column, label_columns, blank, add_column, add_columns, with_value}
+use Rattle.fd_column.specs.LabelColumns.{label_column, label_columns, blank, add_column, add_columns, with_value}
 use Rattle.fd_column.proofs.NameLaws.{are_rising, has, put, put_all, HasAll, Covers, names_of, to_less, rest_rises, under_has_not, all_rise, has_still, names_rise, names_cover, names_push, values_none}
 
 add_column_is : (maps : List (List Pair)) (count : ℕ) (names : List (List ℕ)) (name : List ℕ) → IsTrue (are_rising names) → (has name names ≡ false → label_column maps name ≡ blank count name) → add_column count (map (label_column maps) names) name ≡ map (label_column maps) (put names name)

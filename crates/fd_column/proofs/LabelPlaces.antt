@@ -9,11 +9,11 @@ use Rattle.fd_kinds.specs.declared.kinds.Pair.{Pair}
 use Rattle.fd_kinds.specs.declared.row.Numbered.{Numbered}
 use Rattle.fd_kinds.specs.LabelMaps.{value_of}
 use Rattle.fd_lists.specs.Texts.{text_cmp}
-use Rattle.fd_column.specs.declared.labelled.Labelled.{Labelled}
+use Rattle.fd_column.specs.declared.table.LabelColumn.{LabelColumn}
 use Rattle.fd_column.specs.declared.table.Table.{Table}
 use Rattle.fd_dictionary.specs.Dictionaries.{Cells}
 use Rattle.fd_column.specs.Cells.{Column, label, pprof_label, columns_of, names_in, series_pairs, pprof_pairs}
-use Rattle.fd_column.specs.Labelled.{label_column, place_of}
+use Rattle.fd_column.specs.LabelColumns.{label_column, place_of}
 use Rattle.fd_column.specs.Tables.{IsTableOf}
 use Rattle.fd_column.proofs.NameLaws.{same_text, has, HasAll, Covers, names_of, names_cover, value_none}
 use Rattle.fd_column.proofs.CellLaws.{behind}
@@ -64,13 +64,13 @@ suc_first at None = refl
 suc_first at (Some p) = ap Some (omega arith)
 
 -- the column at a place has the name, or the place is behind it
-pub place_here : (columns : List (Labelled Cells)) (name : List ℕ) (at : ℕ) (c : Labelled Cells) → at < length columns → c ≡ get_or columns at c → is_eq (text_cmp name c.name) ≡ true → option_map (λ p. at + p) (place_of name (drop at columns)) ≡ Some at
+pub place_here : (columns : List (LabelColumn Cells)) (name : List ℕ) (at : ℕ) (c : LabelColumn Cells) → at < length columns → c ≡ get_or columns at c → is_eq (text_cmp name c.name) ≡ true → option_map (λ p. at + p) (place_of name (drop at columns)) ≡ Some at
 place_here columns name at c inside is same =
     ap (λ cs. option_map (λ p. at + p) (place_of name cs)) (dropped columns at c inside is)
     ∙ ap (λ b. option_map (λ p. at + p) (cond b (Some 0) (option_map (λ p. suc p) (place_of name (drop (at + 1) columns))))) same
     ∙ ap Some (omega arith)
 
-pub place_behind : (columns : List (Labelled Cells)) (name : List ℕ) (at : ℕ) (c : Labelled Cells) → at < length columns → c ≡ get_or columns at c → is_eq (text_cmp name c.name) ≡ false → option_map (λ p. at + p) (place_of name (drop at columns)) ≡ option_map (λ p. at + 1 + p) (place_of name (drop (at + 1) columns))
+pub place_behind : (columns : List (LabelColumn Cells)) (name : List ℕ) (at : ℕ) (c : LabelColumn Cells) → at < length columns → c ≡ get_or columns at c → is_eq (text_cmp name c.name) ≡ false → option_map (λ p. at + p) (place_of name (drop at columns)) ≡ option_map (λ p. at + 1 + p) (place_of name (drop (at + 1) columns))
 place_behind columns name at c inside is other =
     ap (λ cs. option_map (λ p. at + p) (place_of name cs)) (dropped columns at c inside is)
     ∙ ap (λ b. option_map (λ p. at + p) (cond b (Some 0) (option_map (λ p. suc p) (place_of name (drop (at + 1) columns))))) other

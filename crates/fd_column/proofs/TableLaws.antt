@@ -13,12 +13,12 @@ use Rattle.fd_column.specs.declared.table.Table.{Table}
 use Rattle.fd_dictionary.specs.Dictionaries.{Cells, cell_in}
 use Rattle.fd_column.specs.Stacks.{stack_bytes, frames_of, AreShort}
 use Rattle.fd_column.specs.Cells.{series_pairs, pprof_pairs}
-use Rattle.fd_column.specs.Labelled.{label_columns, with_value, add_columns, pairs_at}
-use Rattle.fd_column.specs.Numbering.{IsNumber}
+use Rattle.fd_column.specs.LabelColumns.{label_columns, with_value, add_columns, pairs_at}
+use Rattle.fd_column.specs.RowNumbers.{IsNumber}
 use Rattle.fd_column.specs.Texts.{HasTexts}
 use Rattle.fd_column.specs.Tables.{IsTableOf, GrowsBy, AreHeld, IsGrowing, text_at, number_in, number_at, row_at, rows_of_table}
 use Rattle.fd_column.proofs.LabelGrowth.{labels_grow}
-use Rattle.fd_column.proofs.LabelsBack.{pairs_of_row, labels_from_is}
+use Rattle.fd_column.proofs.RowLabels.{pairs_of_row, labels_from_is}
 use Rattle.fd_column.proofs.StackLaws.{frames_of_stack}
 
 -- a column of a function of the rows, and one more row

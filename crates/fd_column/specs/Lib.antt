@@ -1,6 +1,0 @@
-pub mod Cells
-pub mod Labelled
-pub mod Numbering
-pub mod Stacks
-pub mod Tables
-pub mod Texts

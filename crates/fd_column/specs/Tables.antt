@@ -9,8 +9,8 @@ use Rattle.fd_column.specs.declared.table.Table.{Table}
 use Rattle.fd_dictionary.specs.Dictionaries.{Cells, cell_in}
 use Rattle.fd_column.specs.Stacks.{stack_bytes, frames_of, AreShort}
 use Rattle.fd_column.specs.Cells.{series_pairs, pprof_pairs, column_names}
-use Rattle.fd_column.specs.Labelled.{label_columns, add_columns, with_value, pairs_at, labels_from}
-use Rattle.fd_column.specs.Numbering.{numbered_cmp, IsNumber}
+use Rattle.fd_column.specs.LabelColumns.{label_columns, add_columns, with_value, pairs_at, labels_from}
+use Rattle.fd_column.specs.RowNumbers.{numbered_cmp, IsNumber}
 use Rattle.fd_column.specs.Texts.{AreTexts}
 
 pub record AreKindsOf (k : Kinds Cells) (rows : List Numbered) : Type 0 where

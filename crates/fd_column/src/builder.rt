@@ -1,17 +1,18 @@
 ghost use Rattle.std.specs.Prelude.{◌≡◌, ◌<◌, ◌^◌, [], ◌∷◌, ◌++◌, List, IfOk, OnOk, IsSorted};
 ghost use Rattle.fd_kinds.specs.declared.row.Numbered.{Numbered};
-ghost use Rattle.fd_column.specs.Numbering.{numbered_cmp};
+ghost use Rattle.fd_column.specs.RowNumbers.{numbered_cmp};
 
-use crate::grow::{finished_table, new_table, push_row};
 use crate::part::ColumnPart;
 use crate::table::Table;
+use crate::table_builder::{finished_table, new_table, push_row};
 use crate::texts::row_is_utf8;
 use fd_kinds::{NoMemory, Numbered};
 use std::alloc::Global;
 use std::marker::Model;
 
 /// Numbered rows that are put in columns one after the other, which contracts see as the list of
-/// the rows so far.
+/// the rows so far. They are not sorted here: never give a row that comes before one that was
+/// given.
 #[derive(Drop)]
 pub struct PartBuilder {
     table: Table<DictionaryBuilder>,

@@ -1,17 +1,22 @@
-ghost use Rattle.std.specs.Prelude.{◌≡◌, ◌<◌, ◌^◌, pos, Some, None, true, length, slice_get, option_map, is_some, IfSome, All};
+ghost use Rattle.std.specs.Prelude.{◌≡◌, ◌<◌, ◌^◌, pos, Some, None, true, length, slice_get};
+ghost use Rattle.std.specs.Prelude.{option_map, is_some, IfSome, All};
 ghost use Rattle.std.specs.Option.{option_copied};
 ghost use Rattle.fd_kinds.specs.LabelMaps.{value_of};
-ghost use Rattle.fd_column.specs.Cells.{cell_at, column_texts, columns_of, is_text_column, label, text_in, whole_in};
-ghost use Rattle.fd_column.specs.Labelled.{labelled_cell, place_of};
+ghost use Rattle.fd_column.specs.Cells.{cell_at, column_texts, columns_of, is_text_column, label};
+ghost use Rattle.fd_column.specs.Cells.{text_in, whole_in};
+ghost use Rattle.fd_column.specs.LabelColumns.{labelled_cell, place_of};
 ghost use Rattle.fd_column.specs.Tables.{rows_of_table, IsGrowing};
 
+use crate::table::{LabelColumn, Table};
 use fd_dictionary::Dictionary;
-use crate::labelled::Labelled;
-use crate::table::Table;
 use fd_kinds::{Items, Text};
 
 /// The text of a cell of the columns of labels, none where it is absent or there is no such column.
-fn labelled_text(columns: &Items<Labelled<Dictionary>>, column: usize, at: usize) -> Option<&[u8]>
+fn labelled_text(
+    columns: &Items<LabelColumn<Dictionary>>,
+    column: usize,
+    at: usize,
+) -> Option<&[u8]>
     ensures { option_copied result ≡ labelled_cell columns.now column at }
 {
     columns.get(column)?.cells.cell(at)
@@ -44,8 +49,9 @@ pub fn text_of_table(table: &Table<Dictionary>, column: usize, at: usize) -> Opt
 }
 
 /// The cells of a column of labels, none where there is no such column.
-fn labelled_cells(columns: &Items<Labelled<Dictionary>>, column: usize) -> Option<&Dictionary>
-    ensures { option_copied result ≡ option_map (λ labelled. labelled.cells) (slice_get columns.now column) }
+fn labelled_cells(columns: &Items<LabelColumn<Dictionary>>, column: usize) -> Option<&Dictionary>
+    ensures { option_copied result
+        ≡ option_map (λ labelled. labelled.cells) (slice_get columns.now column) }
 {
     Some(&columns.get(column)?.cells)
 }
@@ -54,7 +60,8 @@ fn labelled_cells(columns: &Items<Labelled<Dictionary>>, column: usize) -> Optio
 pub fn dictionary_of_table(table: &Table<Dictionary>, column: usize) -> Option<&Dictionary>
     requires { IsGrowing table.now }
     ensures kind { is_some result ≡ is_text_column (rows_of_table table.now) column }
-    ensures cells { IfSome result (λ dictionary. dictionary.now ≡ column_texts (rows_of_table table.now) column) }
+    ensures cells { IfSome result (λ dictionary.
+        dictionary.now ≡ column_texts (rows_of_table table.now) column) }
 {
     match column {
         0 | 6 | 8 | 9 | 10 => None,
@@ -77,14 +84,14 @@ pub fn dictionary_of_table(table: &Table<Dictionary>, column: usize) -> Option<&
 }
 
 /// A number of a column, none where there is none.
-fn whole_of(numbers: &Items<i64>, at: usize) -> Option<i64>
+fn whole_cell(numbers: &Items<i64>, at: usize) -> Option<i64>
     ensures { result ≡ slice_get numbers.now at }
 {
     numbers.get(at).copied()
 }
 
 /// The number of a row's batch, which fits 63 bits.
-fn number_of(numbers: &Items<u64>, at: usize) -> Option<i64>
+fn batch_cell(numbers: &Items<u64>, at: usize) -> Option<i64>
     requires { All (λ number. number < 2 ^ 63) numbers.now }
     ensures { result ≡ option_map (λ number. pos number) (slice_get numbers.now at) }
 {
@@ -101,18 +108,18 @@ pub fn whole_of_table(table: &Table<Dictionary>, column: usize, at: usize) -> Op
     ensures { result ≡ whole_in (cell_at (rows_of_table table.now) column at) }
 {
     match column {
-        0 => number_of(&table.numbers, at),
-        6 => whole_of(&table.wholes.timestamps, at),
-        8 => whole_of(&table.wholes.periods, at),
-        9 => whole_of(&table.wholes.durations, at),
-        10 => whole_of(&table.wholes.values, at),
+        0 => batch_cell(&table.numbers, at),
+        6 => whole_cell(&table.wholes.timestamps, at),
+        8 => whole_cell(&table.wholes.periods, at),
+        9 => whole_cell(&table.wholes.durations, at),
+        10 => whole_cell(&table.wholes.values, at),
         _ => None,
     }
 }
 
 #[tactic(auto, using(std::proofs::lemmas::Grind::common_steps, crate::proofs::LabelPlaces::place_here, crate::proofs::LabelPlaces::place_behind))]
 /// The place of the column of this name, none where there is none.
-fn place_of(columns: &[Labelled<Dictionary>], name: &Text) -> Option<usize>
+fn place_of(columns: &[LabelColumn<Dictionary>], name: &Text) -> Option<usize>
     ensures place { result ≡ place_of name.now columns.now }
     ensures small { IfSome result (λ place. place < 2 ^ 63) }
 {
@@ -127,8 +134,10 @@ fn place_of(columns: &[Labelled<Dictionary>], name: &Text) -> Option<usize>
 /// The place of the column of the series labels of this name, none where there is none.
 pub fn label_column_of_table(table: &Table<Dictionary>, name: &Text) -> Option<usize>
     requires { IsGrowing table.now }
-    ensures found { IfSome result (λ column. slice_get (columns_of (rows_of_table table.now)) column ≡ Some (label name.now)) }
-    ensures none { result ≡ None → All (λ row. value_of row.row.labels.pairs name.now ≡ None) (rows_of_table table.now) }
+    ensures found { IfSome result (λ column.
+        slice_get (columns_of (rows_of_table table.now)) column ≡ Some (label name.now)) }
+    ensures none { result ≡ None
+        → All (λ row. value_of row.row.labels.pairs name.now ≡ None) (rows_of_table table.now) }
 {
     match place_of(table.labels.as_slice(), name) {
         Some(place) => Some(place + 11),

@@ -1,8 +1,10 @@
-ghost use Rattle.std.specs.Prelude.{◌≡◌, ◌<◌, List, Some, None, IfOk, IfSome, All, IsUtf8, Decides, is_some, length, slice_get, option_map};
+ghost use Rattle.std.specs.Prelude.{◌≡◌, ◌<◌, List, Some, None, IfOk, IfSome, All, IsUtf8, Decides};
+ghost use Rattle.std.specs.Prelude.{is_some, length, slice_get, option_map};
 ghost use Rattle.std.specs.Option.{option_copied};
 ghost use Rattle.fd_kinds.specs.declared.row.Numbered.{Numbered};
 ghost use Rattle.fd_kinds.specs.LabelMaps.{value_of};
-ghost use Rattle.fd_column.specs.Cells.{Column, label, columns_of, column_names, column_texts, is_text_column, cell_at, text_in, whole_in, labels_in};
+ghost use Rattle.fd_column.specs.Cells.{Column, label, columns_of, column_names, column_texts};
+ghost use Rattle.fd_column.specs.Cells.{is_text_column, cell_at, text_in, whole_in, labels_in};
 ghost use Rattle.fd_column.specs.Stacks.{AreShort};
 ghost use Rattle.fd_column.specs.Texts.{AreTexts};
 
@@ -39,17 +41,21 @@ pub trait Columns {
     /// has whole numbers, or there is none.
     fn dictionary(&self, column: usize) -> Option<&Dictionary>
         ensures kind { is_some result ≡ is_text_column (rows self.now) column }
-        ensures cells { IfSome result (λ dictionary. dictionary.now ≡ column_texts (rows self.now) column) };
+        ensures cells { IfSome result (λ dictionary.
+            dictionary.now ≡ column_texts (rows self.now) column) };
 
     /// The column of the series labels of this name, none where no row has one.
     fn label_column(&self, name: &Text) -> Option<usize>
-        ensures found { IfSome result (λ column. slice_get (columns_of (rows self.now)) column ≡ Some (label name.now)) }
-        ensures none { result ≡ None → All (λ row. value_of row.row.labels.pairs name.now ≡ None) (rows self.now) };
+        ensures found { IfSome result (λ column.
+            slice_get (columns_of (rows self.now)) column ≡ Some (label name.now)) }
+        ensures none { result ≡ None
+            → All (λ row. value_of row.row.labels.pairs name.now ≡ None) (rows self.now) };
 
     /// The labels of a row's series.
     fn labels(&self, at: usize) -> Result<Labels, NoMemory>
         requires { at < length (rows self.now) }
-        ensures { IfOk result (λ labels. option_map (λ row. row.row.labels) (slice_get (rows self.now) at) ≡ Some labels) };
+        ensures { IfOk result (λ labels.
+            option_map (λ row. row.row.labels) (slice_get (rows self.now) at) ≡ Some labels) };
 
     /// Whether the series of two rows have the same labels, of which no text is read.
     fn same_labels(&self, a: usize, b: usize) -> bool
@@ -60,7 +66,8 @@ pub trait Columns {
     /// The stack of a row.
     fn stack(&self, at: usize) -> Result<Stack, NoMemory>
         requires { at < length (rows self.now) }
-        ensures { IfOk result (λ stack. option_map (λ row. row.row.stack) (slice_get (rows self.now) at) ≡ Some stack) };
+        ensures { IfOk result (λ stack.
+            option_map (λ row. row.row.stack) (slice_get (rows self.now) at) ≡ Some stack) };
 
     /// The length of each frame has four bytes, so no two stacks have the same cell.
     fn short(&self)

@@ -1,9 +1,8 @@
 ghost use Rattle.std.specs.Prelude.{◌≡◌, ◌++◌, [], ◌∷◌, List, ℕ, IfOk, map, codes};
 ghost use Rattle.fd_column.specs.Cells.{column_name, fixed_columns};
 
+use crate::table::{LabelColumn, Table};
 use fd_dictionary::Dictionary;
-use crate::labelled::Labelled;
-use crate::table::Table;
 use fd_kinds::{Items, NoMemory, Text, Texts};
 use std::alloc::Global;
 
@@ -45,9 +44,10 @@ fn dotted(alloc: Global, prefix: &str, name: &Text) -> Result<Text, NoMemory>
 fn with_names(
     names: Texts,
     prefix: &str,
-    columns: &[Labelled<Dictionary>],
+    columns: &[LabelColumn<Dictionary>],
 ) -> Result<Texts, NoMemory>
-    ensures { IfOk result (λ more. more ≡ names ++ map (λ column. prefix.now ++ column.name) columns.now) }
+    ensures { IfOk result (λ more.
+        more ≡ names ++ map (λ column. prefix.now ++ column.name) columns.now) }
 {
     let mut more = names;
     for column in columns {
@@ -59,7 +59,9 @@ fn with_names(
 
 /// The concrete names of the columns, in order.
 pub fn names_of(table: &Table<Dictionary>) -> Result<Texts, NoMemory>
-    ensures { IfOk result (λ names. names ≡ map column_name fixed_columns ++ map (λ column. codes "labels." ++ column.name) table.now.labels ++ map (λ column. codes "pprof_labels." ++ column.name) table.now.pprof_labels) }
+    ensures { IfOk result (λ names. names ≡ map column_name fixed_columns
+        ++ map (λ column. codes "labels." ++ column.name) table.now.labels
+        ++ map (λ column. codes "pprof_labels." ++ column.name) table.now.pprof_labels) }
 {
     let names = fixed_names(table.numbers.allocator())?;
     let names = with_names(names, "labels.", table.labels.as_slice())?;

@@ -1,12 +1,12 @@
 ghost use Rattle.std.specs.Prelude.{◌≡◌, ◌<◌, ◌^◌, Some, IfOk, IsSorted, All, length, slice_get};
 ghost use Rattle.fd_kinds.specs.Parts.{with_number, rows_of};
-ghost use Rattle.fd_column.specs.Numbering.{numbered_cmp, IsNumber};
+ghost use Rattle.fd_column.specs.RowNumbers.{numbered_cmp, IsNumber};
 
-use crate::body::Body;
 use crate::builder::PartBuilder;
 use crate::columns::Columns;
-use fd_dictionary::Dictionary;
+use crate::named_table::NamedTable;
 use crate::table::Table;
+use fd_dictionary::Dictionary;
 use fd_kinds::{Labels, NoMemory, Numbered, NumberedRows, Stack, Text, Texts};
 use std::alloc::Global;
 use std::marker::Model;
@@ -14,22 +14,22 @@ use std::sync::Arc;
 
 /// Numbered rows by columns, sorted by the row order and then by number, which contracts see as
 /// the list of the rows. The columns are shared without a copy, also by parts that give the rows
-/// another number.
+/// another number. The place of a column holds in this part alone: never use it in another.
 #[derive(Debug, Drop)]
 pub struct ColumnPart {
     given: Option<u64>,
-    body: Arc<Body>,
+    table: Arc<NamedTable>,
 }
 
 impl Model for ColumnPart {
     ghost use Rattle.std.specs.Prelude.{List};
     ghost use Rattle.std.specs.Arc.{arc_value};
     ghost use Rattle.fd_kinds.specs.declared.row.Numbered.{Numbered};
-    ghost use Rattle.fd_column.specs.Numbering.{renumbered, IsGiven};
+    ghost use Rattle.fd_column.specs.RowNumbers.{renumbered, IsGiven};
 
     ghost Value = { List Numbered };
 
-    ghost view = { λ p. renumbered p.given (arc_value p.body) };
+    ghost view = { λ p. renumbered p.given (arc_value p.table) };
 
     ghost invariant = { λ p. IsGiven p.given };
 }
@@ -43,9 +43,12 @@ impl ColumnPart {
         requires sorted { IsSorted numbered_cmp (rows_of_table table) }
         ensures { IfOk result (λ part. part ≡ rows_of_table table) }
     {
-        let body = Body::of(table)?;
-        let body = Arc::new(body.allocator(), body)?;
-        Ok(ColumnPart { given: None, body })
+        let named = NamedTable::of(table)?;
+        let named = Arc::new(named.allocator(), named)?;
+        Ok(ColumnPart {
+            given: None,
+            table: named,
+        })
     }
 
     /// The part of exactly these rows. A frame of 2^32 bytes or more wants memory.
@@ -65,10 +68,10 @@ impl ColumnPart {
     pub fn share(&self) -> Result<ColumnPart, NoMemory>
         ensures { IfOk result (λ copy. copy ≡ self.now) }
     {
-        let body = self.body.clone()?;
+        let table = self.table.clone()?;
         Ok(ColumnPart {
             given: self.given,
-            body,
+            table,
         })
     }
 
@@ -77,10 +80,10 @@ impl ColumnPart {
         requires { number < 2 ^ 63 }
         ensures { IfOk result (λ part. part ≡ with_number number (rows_of self.now)) }
     {
-        let body = self.body.clone()?;
+        let table = self.table.clone()?;
         Ok(ColumnPart {
             given: Some(number),
-            body,
+            table,
         })
     }
 
@@ -89,7 +92,7 @@ impl ColumnPart {
         requires { at < length self.now }
         ensures { IfOk result (λ row. slice_get self.now at ≡ Some row) }
     {
-        let Numbered { number, row } = self.body.row(at)?;
+        let Numbered { number, row } = self.table.row(at)?;
         Ok(Numbered {
             number: self.given.unwrap_or(number),
             row,
@@ -101,7 +104,7 @@ impl ColumnPart {
         ensures sorted { IsSorted numbered_cmp self.now }
         ensures numbers { All IsNumber self.now }
     {
-        self.body.in_order();
+        self.table.in_order();
     }
 }
 
@@ -109,55 +112,55 @@ impl Columns for ColumnPart {
     ghost rows = { λ part. part };
 
     fn len(&self) -> usize {
-        self.body.len()
+        self.table.len()
     }
 
     fn names(&self) -> &Texts {
-        self.body.names()
+        self.table.names()
     }
 
     fn text(&self, column: usize, at: usize) -> Option<&[u8]> {
-        self.body.text(column, at)
+        self.table.text(column, at)
     }
 
     fn whole(&self, column: usize, at: usize) -> Option<i64> {
         match self.given {
-            None => self.body.whole(column, at),
+            None => self.table.whole(column, at),
             Some(number) => {
                 if column == 0 {
                     Some(number as i64)
                 } else {
-                    self.body.whole(column, at)
+                    self.table.whole(column, at)
                 }
             }
         }
     }
 
     fn dictionary(&self, column: usize) -> Option<&Dictionary> {
-        self.body.dictionary(column)
+        self.table.dictionary(column)
     }
 
     fn label_column(&self, name: &Text) -> Option<usize> {
-        self.body.label_column(name)
+        self.table.label_column(name)
     }
 
     fn labels(&self, at: usize) -> Result<Labels, NoMemory> {
-        self.body.labels(at)
+        self.table.labels(at)
     }
 
     fn same_labels(&self, a: usize, b: usize) -> bool {
-        self.body.same_labels(a, b)
+        self.table.same_labels(a, b)
     }
 
     fn stack(&self, at: usize) -> Result<Stack, NoMemory> {
-        self.body.stack(at)
+        self.table.stack(at)
     }
 
     fn short(&self) {
-        self.body.short();
+        self.table.short();
     }
 
     fn utf8(&self) {
-        self.body.utf8();
+        self.table.utf8();
     }
 }

@@ -48,9 +48,9 @@ fn first_frame(bytes: &[u8]) -> (&[u8], &[u8])
     ensures frames { frames_of bytes.now ≡ result.0.now ∷ frames_of result.1.now }
     ensures shorter { length result.1.now < length bytes.now }
 {
-    let (_, body) = bytes.split_at(4);
+    let (_, rest) = bytes.split_at(4);
     let length = u32::from_le_bytes([bytes[0], bytes[1], bytes[2], bytes[3]]) as usize;
-    body.split_at(length.min(body.len()))
+    rest.split_at(length.min(rest.len()))
 }
 
 /// The stack that the bytes spell.

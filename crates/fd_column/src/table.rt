@@ -1,5 +1,4 @@
-use crate::labelled::Labelled;
-use fd_kinds::Items;
+use fd_kinds::{Items, Text};
 
 /// The columns of the five texts that each row has.
 #[derive(Debug, Drop)]
@@ -20,13 +19,20 @@ pub struct Wholes {
     pub values: Items<i64>,
 }
 
+/// A column of the values of one label, and the label's name.
+#[derive(Debug, Drop)]
+pub struct LabelColumn<C> {
+    pub name: Text,
+    pub cells: C,
+}
+
 /// The columns of numbered rows. Those of the labels stand in the order of their names.
 #[derive(Debug, Drop)]
 pub struct Table<C> {
     pub numbers: Items<u64>,
     pub kinds: Kinds<C>,
-    pub labels: Items<Labelled<C>>,
+    pub labels: Items<LabelColumn<C>>,
     pub stacks: C,
-    pub pprof_labels: Items<Labelled<C>>,
+    pub pprof_labels: Items<LabelColumn<C>>,
     pub wholes: Wholes,
 }

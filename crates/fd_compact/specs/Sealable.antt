@@ -1,7 +1,7 @@
 -- Parts in whose place one sealed part can stand, and that part.
 use Rattle.std.specs.Prelude.{◌≡◌, ◌≤◌, ◌<◌, ◌^◌, List, All, IsPermutation, IsSorted}
 use Rattle.fd_kinds.specs.Parts.{PartMeaning, IsWithin}
-use Rattle.fd_column.specs.Numbering.{numbered_cmp}
+use Rattle.fd_column.specs.RowNumbers.{numbered_cmp}
 use Rattle.fd_shelf.specs.Books.{Each, IsSealed, rows_in, bytes_of}
 use Rattle.fd_shelf.specs.Steps.{lowest, highest}
 

@@ -9,7 +9,7 @@ use std::marker::Model;
 use std::mem;
 
 /// A column of texts that takes more cells at its end, which contracts see as the list of its cells
-/// so far.
+/// so far. After want of memory it has lost its cells: never go on with it.
 #[derive(Drop)]
 pub struct DictionaryBuilder {
     entries: Interner,
@@ -27,6 +27,7 @@ impl Model for DictionaryBuilder {
 }
 
 impl DictionaryBuilder {
+    /// No cells, which take no memory.
     pub fn new(alloc: Global) -> DictionaryBuilder
         ensures { result ≡ [] }
     {

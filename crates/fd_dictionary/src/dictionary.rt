@@ -1,13 +1,15 @@
 ghost use Rattle.std.specs.Prelude.{◌≡◌, Decides, length, slice_get, unwrap_or};
 ghost use Rattle.std.specs.Option.{option_copied};
-ghost use Rattle.fd_dictionary.specs.Dictionaries.{cells_of, cell_in, entries_of, index_in, IsDictionary};
+ghost use Rattle.fd_dictionary.specs.Dictionaries.{cells_of, cell_in, entries_of, index_in};
+ghost use Rattle.fd_dictionary.specs.Dictionaries.{IsDictionary};
 
 use crate::pieces::Pieces;
 use fd_lists::Items;
 use std::marker::Model;
 
 /// A column of texts, which contracts see as the list of its cells: its distinct texts, and for
-/// each cell which of them it is.
+/// each cell which of them it is. The place of an entry means nothing outside its column: never
+/// compare the places of two columns.
 #[derive(Debug, Drop)]
 pub struct Dictionary {
     texts: Pieces,

@@ -11,6 +11,7 @@ use std::marker::Model;
 const MOST_TEXTS: usize = 0xffff_ffff;
 
 /// Distinct texts in the order in which they came, and for each what stands for it in a column.
+/// Never add a text that is there: ask for its `pick` first.
 #[derive(Drop)]
 pub struct Interner {
     texts: Pieces,
@@ -29,6 +30,7 @@ impl Model for Interner {
 }
 
 impl Interner {
+    /// No texts, which take no memory.
     pub fn new(alloc: Global) -> Interner
         ensures { result ≡ [] }
     {

@@ -33,6 +33,7 @@ impl Model for Pieces {
 }
 
 impl Pieces {
+    /// No pieces, which take no memory.
     pub fn new(alloc: Global) -> Pieces
         ensures { result ≡ [] }
     {

@@ -1,7 +1,7 @@
 ghost use Rattle.std.specs.Prelude.{◌≡◌, ◌+◌, ◌<◌, drop, length, slice_get, IfOk, All};
 ghost use Rattle.std.specs.Option.{option_copied};
-ghost use Rattle.fd_column.specs.Numbering.{IsNumber};
-ghost use Rattle.fd_merge.specs.Merging.{MovesFirst};
+ghost use Rattle.fd_column.specs.RowNumbers.{IsNumber};
+ghost use Rattle.fd_merge.specs.Merges.{MovesFirst};
 
 use fd_column::{ColumnPart, Columns, PartBuilder};
 use fd_kinds::{NoMemory, Numbered};
@@ -45,7 +45,8 @@ impl<'a> Model for Cursor<'a> {
 
     ghost view = { λ c. drop c.at c.part.now };
 
-    ghost invariant = { λ c. (c.count ≡ length c.part.now) × (c.first ≡ slice_get c.part.now c.at) };
+    ghost invariant = { λ c.
+        (c.count ≡ length c.part.now) × (c.first ≡ slice_get c.part.now c.at) };
 }
 
 impl<'a> Cursor<'a> {

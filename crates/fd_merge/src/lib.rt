@@ -2,8 +2,8 @@
 #![tactic(auto)]
 
 mod cursor;
-mod merging;
+mod merger;
 mod order;
 mod side;
 
-pub use merging::merge;
+pub use merger::merge;

@@ -1,7 +1,7 @@
 ghost use Rattle.std.specs.Prelude.{◌≡◌};
 ghost use Rattle.std.specs.Option.{option_copied};
-ghost use Rattle.fd_column.specs.Numbering.{numbered_cmp};
-ghost use Rattle.fd_merge.specs.Merging.{next_of};
+ghost use Rattle.fd_column.specs.RowNumbers.{numbered_cmp};
+ghost use Rattle.fd_merge.specs.Merges.{next_of};
 
 use crate::side::Side;
 use fd_kinds::{Numbered, compare_rows};

@@ -12,7 +12,7 @@ use Rattle.fd_kinds.specs.LabelMaps.{value_of}
 use Rattle.fd_column.specs.declared.table.Table.{Table}
 use Rattle.fd_column.specs.Cells.{Column, number, name, sample_type, sample_unit, period_type, period_unit, timestamp, stack, period, duration, value, label, pprof_label, cell_of, label_cell, columns_of, fixed_columns, series_pairs, pprof_pairs, names_in}
 use Rattle.fd_dictionary.specs.Dictionaries.{Cells}
-use Rattle.fd_column.specs.Labelled.{label_column, label_columns}
+use Rattle.fd_column.specs.LabelColumns.{label_column, label_columns}
 use Rattle.fd_column.specs.Stacks.{stack_bytes, frame_bytes, AreShort}
 use Rattle.fd_column.specs.Tables.{IsTableOf, row_at}
 use Rattle.fd_column.proofs.TableLaws.{row_back}

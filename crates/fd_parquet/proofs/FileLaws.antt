@@ -18,7 +18,7 @@ use Rattle.fd_column.specs.Texts.{AreTexts}
 use Rattle.fd_parquet.specs.Chunks.{IsChunkOf, AddsChunkOf}
 use Rattle.fd_parquet.specs.Files.{magic, chunk_at, framed, places_from, footer_at, footer_of, HasChunks, IsSmall, IsPlainFileOf}
 use Rattle.fd_kinds.specs.Parts.{IsWithin}
-use Rattle.fd_column.specs.Numbering.{numbered_cmp}
+use Rattle.fd_column.specs.RowNumbers.{numbered_cmp}
 use Rattle.fd_parquet.proofs.CountLaws.{columns_few}
 use Rattle.fd_parquet.proofs.SizeLaws.{rows_few}
 use Rattle.std.specs.Int.{w32, to_le_bytes}

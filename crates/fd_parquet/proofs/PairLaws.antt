@@ -11,8 +11,8 @@ use Rattle.fd_kinds.specs.declared.labels.Labels.{Labels}
 use Rattle.fd_kinds.specs.Labels.{are_labels}
 use Rattle.fd_kinds.specs.LabelsOf.{with_pairs}
 use Rattle.fd_kinds.proofs.RowLaws.{same_labels_of_pairs}
-use Rattle.fd_column.specs.Labelled.{labels_from}
-use Rattle.fd_column.proofs.LabelsBack.{labels_from_is}
+use Rattle.fd_column.specs.LabelColumns.{labels_from}
+use Rattle.fd_column.proofs.RowLabels.{labels_from_is}
 use Rattle.fd_pages.specs.declared.cell.Cell.{Cell}
 use Rattle.fd_footer.specs.declared.footer.Column.{Column}
 use Rattle.fd_parquet.specs.Rows.{cell_in, bytes_of, behind, pair_of, pairs_in}

@@ -8,9 +8,9 @@ use Rattle.fd_kinds.specs.declared.kinds.Pair.{Pair}
 use Rattle.fd_kinds.specs.declared.row.Numbered.{Numbered}
 use Rattle.fd_kinds.specs.LabelMaps.{value_of}
 use Rattle.fd_column.specs.Cells.{Column, number, name, sample_type, sample_unit, period_type, period_unit, timestamp, stack, period, duration, value, label, pprof_label, cell_of, label_cell, columns_of, names_in, series_pairs, pprof_pairs}
-use Rattle.fd_column.specs.Labelled.{label_column, pair_at, pairs_at}
+use Rattle.fd_column.specs.LabelColumns.{label_column, pair_at, pairs_at}
 use Rattle.fd_column.specs.Stacks.{stack_bytes, frame_bytes, frames_of, AreShort}
-use Rattle.fd_column.proofs.LabelsBack.{pairs_of_row, labels_from_is}
+use Rattle.fd_column.proofs.RowLabels.{pairs_of_row, labels_from_is}
 use Rattle.fd_column.proofs.StackLaws.{frames_of_stack}
 use Rattle.fd_pages.specs.declared.cell.Cell.{Cell}
 use Rattle.fd_pages.specs.Columns.{Fits}

@@ -6,7 +6,7 @@ use Rattle.fd_kinds.specs.Meaning.{distinct}
 use Rattle.fd_lists.specs.Texts.{text_cmp}
 use Rattle.fd_kinds.specs.declared.row.Numbered.{Numbered}
 use Rattle.fd_column.specs.Cells.{Column, column_name, columns_of}
-use Rattle.fd_column.specs.Numbering.{numbered_cmp}
+use Rattle.fd_column.specs.RowNumbers.{numbered_cmp}
 use Rattle.fd_pages.specs.declared.cell.CellKind.TheVariants.{Whole as WholeKind}
 use Rattle.fd_pages.specs.declared.cell.Cell.{Cell}
 use Rattle.fd_pages.specs.Dictionaries.{IsDictionary, IsCodePage, texts_in}

@@ -5,7 +5,7 @@ use Rattle.fd_kinds.specs.RowSize.{row_size}
 use Rattle.std.specs.List.{AllZip, concat}
 use Rattle.fd_kinds.specs.declared.row.Numbered.{Numbered}
 use Rattle.fd_column.specs.Cells.{Column, columns_of}
-use Rattle.fd_column.specs.Numbering.{numbered_cmp}
+use Rattle.fd_column.specs.RowNumbers.{numbered_cmp}
 use Rattle.fd_footer.specs.declared.footer.Pages.TheVariants.{Plain, Dict}
 use Rattle.fd_footer.specs.declared.footer.Pages.{Pages}
 use Rattle.fd_footer.specs.declared.footer.Chunk.{Chunk}

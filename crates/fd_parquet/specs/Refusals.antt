@@ -17,7 +17,7 @@ use Rattle.fd_parquet.specs.Columns.{kind_in, file_column, cells_of, HasText}
 use Rattle.fd_parquet.specs.Chunks.{IsChunk, IsChunkOf}
 use Rattle.fd_parquet.specs.Files.{magic, framed, places_from, footer_at, IsWithin, IsPlainFileOf}
 use Rattle.fd_footer.specs.Footers.{footer_bytes, IsWritable}
-use Rattle.fd_column.specs.Numbering.{numbered_cmp}
+use Rattle.fd_column.specs.RowNumbers.{numbered_cmp}
 use Rattle.fd_column.specs.Cells.{columns_of, column_names}
 use Rattle.fd_footer.specs.declared.footer.Pages.TheVariants.{Plain}
 use Rattle.fd_parquet.specs.declared.fault.FileFault.{FileFault}

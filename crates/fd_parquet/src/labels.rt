@@ -2,7 +2,7 @@ ghost use Rattle.std.specs.Prelude.{◌≡◌, ◌++◌, [], IfOk};
 ghost use Rattle.std.specs.Option.{option_copied};
 ghost use Rattle.std.specs.List.{cons_option};
 ghost use Rattle.fd_kinds.specs.Labels.{are_labels as are_labels_pairs, is_before as is_before_pairs};
-ghost use Rattle.fd_column.specs.Labelled.{labels_from};
+ghost use Rattle.fd_column.specs.LabelColumns.{labels_from};
 ghost use Rattle.fd_parquet.specs.Rows.{behind as behind_prefix, pair_of, pairs_in, labels_in};
 
 use crate::framing::behind;

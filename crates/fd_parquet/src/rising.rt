@@ -1,6 +1,6 @@
 ghost use Rattle.std.specs.Prelude.{◌≡◌, ◌<◌, ◌^◌, ◌++◌, ◌∷◌, [], Some, None, IfOk, IfSome, Decides, IsSorted, length, slice_get, ◌-◌};
 ghost use Rattle.std.specs.Option.{option_copied};
-ghost use Rattle.fd_column.specs.Numbering.{numbered_cmp};
+ghost use Rattle.fd_column.specs.RowNumbers.{numbered_cmp};
 ghost use Rattle.fd_parquet.specs.Rows.{MayFollow};
 
 use fd_column::{ColumnPart, PartBuilder};

@@ -4,7 +4,7 @@ ghost use Rattle.fd_kinds.specs.declared.row.Numbered.{Numbered as AnyRow};
 ghost use Rattle.fd_parquet.specs.Files.{IsWithin};
 ghost use Rattle.fd_parquet.specs.Refusals.{AreRows, HaveTexts, BuildsRows};
 ghost use Rattle.fd_parquet.specs.Rows.{cell_in, number_of, bytes_of, text_in, row_in, MayFollow};
-ghost use Rattle.fd_column.specs.Numbering.{numbered_cmp};
+ghost use Rattle.fd_column.specs.RowNumbers.{numbered_cmp};
 ghost use Rattle.fd_column.specs.Stacks.{frames_of};
 
 use crate::labels::labels_at;

@@ -9,7 +9,7 @@ use Rattle.std.proofs.lemmas.List.{length-map, get_or-map}
 use Rattle.fd_kinds.specs.declared.row.Row.{Row}
 use Rattle.fd_kinds.specs.Parts.{with_number}
 use Rattle.fd_kinds.specs.RowOrder.{row_cmp}
-use Rattle.fd_column.specs.Numbering.{numbered_cmp}
+use Rattle.fd_column.specs.RowNumbers.{numbered_cmp}
 
 level : (n : ℕ) → is_lt (nat_cmp n n) ≡ false
 level n = ap is_lt (tied_itself nat_cmp_total n)

@@ -2,7 +2,7 @@ use Rattle.std.proofs.Common.{◌≡◌, ◌∙◌, ap, rules, ◌-◌, ◌<◌,
 use Rattle.std.specs.Option.{option_copied}
 use Rattle.fd_column.specs.Cells.{column_texts}
 use Rattle.fd_column.specs.Tables.{rows_of_table}
-use Rattle.fd_column.proofs.DictionaryOf.{found, series_found, pprof_found, kind_of_copied, cells_of_copied}
+use Rattle.fd_column.proofs.ColumnDictionaries.{found, series_found, pprof_found, kind_of_copied, cells_of_copied}
 use Rattle.fd_column.proofs.cells.dictionary_of_table.Goals as goal
 
 pub returns-then-label-count : goal.returns-then-label-count

@@ -1,6 +1,6 @@
 use Rattle.std.proofs.Common.{◌≡◌, ◌∙◌, sym, ap}
 use Rattle.std.specs.Prelude.{Some, None}
-use Rattle.fd_column.specs.Labelled.{place_of}
+use Rattle.fd_column.specs.LabelColumns.{place_of}
 use Rattle.fd_column.specs.Tables.{rows_of_table}
 use Rattle.fd_column.proofs.LabelPlaces.{column_found, column_missing}
 use Rattle.fd_column.proofs.cells.label_column_of_table.Goals as goal

@@ -1,6 +1,6 @@
 use Rattle.std.proofs.Common.{◌≡◌, ◌+◌, drop}
 use Rattle.std.specs.Prelude.{option_map}
-use Rattle.fd_column.specs.Labelled.{place_of}
+use Rattle.fd_column.specs.LabelColumns.{place_of}
 use Rattle.fd_column.proofs.cells.place_of.Given as goal
 
 abbrev pub invariant-loop-place : goal.invariant-loop-place

@@ -1,5 +1,5 @@
 use Rattle.std.proofs.Common.{◌∙◌, ap, refl, rules, ◌-◌, ◌<◌, ◌≤◌, length, arith}
-use Rattle.fd_column.specs.Labelled.{labelled_cell}
+use Rattle.fd_column.specs.LabelColumns.{labelled_cell}
 use Rattle.fd_column.specs.Tables.{row_at, rows_of_table}
 use Rattle.fd_column.proofs.TableLaws.{row_there}
 use Rattle.fd_column.proofs.CellLaws.{series_text, pprof_text}

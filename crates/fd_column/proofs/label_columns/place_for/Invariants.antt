@@ -1,5 +1,5 @@
 use Rattle.std.proofs.Common.{◌≡◌, ℕ, ◌++◌, take, drop}
-use Rattle.fd_column.specs.Labelled.{add_column}
+use Rattle.fd_column.specs.LabelColumns.{add_column}
 use Rattle.fd_column.proofs.label_columns.place_for.Given as goal
 
 abbrev pub invariant-loop-column : goal.invariant-loop-column

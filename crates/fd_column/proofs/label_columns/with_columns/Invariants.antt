@@ -1,5 +1,5 @@
 use Rattle.std.proofs.Common.{◌≡◌, take}
-use Rattle.fd_column.specs.Labelled.{add_columns}
+use Rattle.fd_column.specs.LabelColumns.{add_columns}
 use Rattle.fd_column.proofs.label_columns.with_columns.Given as goal
 
 abbrev pub invariant-loop-pair : goal.invariant-loop-pair

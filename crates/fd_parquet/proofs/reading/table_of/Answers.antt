@@ -1,7 +1,7 @@
 use Rattle.std.proofs.Common.{◌≡◌, ◌≤◌, ◌<◌, ◌^◌, ℕ, List, length, Some, sym, ap, ◌∙◌, subst}
 use Rattle.std.specs.Prelude.{IfOk, IfSome, All, IsSorted, option_map}
 use Rattle.fd_kinds.specs.declared.row.Numbered.{Numbered}
-use Rattle.fd_column.specs.Numbering.{numbered_cmp}
+use Rattle.fd_column.specs.RowNumbers.{numbered_cmp}
 use Rattle.fd_parquet.specs.Files.{IsWithin}
 use Rattle.fd_parquet.specs.Refusals.{HaveTexts, FitsTable, HasTable, AreRows}
 use Rattle.fd_parquet.proofs.Injective.{some_is}

@@ -1,7 +1,7 @@
 use Rattle.std.proofs.Common.{List, length, Some, sym, ap, ◌∙◌, subst}
 use Rattle.std.specs.Prelude.{IfSome, All, IsSorted}
 use Rattle.fd_kinds.specs.declared.row.Numbered.{Numbered}
-use Rattle.fd_column.specs.Numbering.{numbered_cmp}
+use Rattle.fd_column.specs.RowNumbers.{numbered_cmp}
 use Rattle.fd_parquet.specs.Files.{IsWithin}
 use Rattle.fd_parquet.specs.Refusals.{BuildsRows}
 use Rattle.fd_parquet.proofs.BuiltRows.{rows_all}

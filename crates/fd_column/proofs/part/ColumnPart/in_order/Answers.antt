@@ -1,6 +1,6 @@
 use Rattle.std.proofs.Common.{◌∙◌, ap}
-use Rattle.fd_column.specs.Numbering.{renumbered}
-use Rattle.fd_column.proofs.GivenLaws.{sorted_kept, numbers_kept}
+use Rattle.fd_column.specs.RowNumbers.{renumbered}
+use Rattle.fd_column.proofs.NumberLaws.{sorted_kept, numbers_kept}
 use Rattle.fd_column.proofs.part.ColumnPart.in_order.Goals as goal
 
 pub returns-clause-sorted : goal.returns-clause-sorted

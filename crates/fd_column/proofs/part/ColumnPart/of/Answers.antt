@@ -1,7 +1,7 @@
 use Rattle.std.proofs.Common.{◌∙◌}
 use Rattle.std.specs.Arc.{arc_value}
-use Rattle.fd_column.proofs.GivenLaws.{own}
+use Rattle.fd_column.proofs.NumberLaws.{own}
 use Rattle.fd_column.proofs.part.ColumnPart.of.Goals as goal
 
 pub returns : goal.returns
-returns c = own (arc_value c.in_ok-body-2.body) ∙ c.in_ok-body-2.ensures.ok ∙ c.in_ok-body.ensures
+returns c = own (arc_value c.in_ok-named-2.named) ∙ c.in_ok-named-2.ensures.ok ∙ c.in_ok-named.ensures

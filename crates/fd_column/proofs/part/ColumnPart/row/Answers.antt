@@ -1,7 +1,7 @@
 use Rattle.std.proofs.Common.{◌∙◌, ap, sym}
 use Rattle.std.specs.Prelude.{Some, option_map}
-use Rattle.fd_column.specs.Numbering.{renumber, renumbered}
-use Rattle.fd_column.proofs.GivenLaws.{there_kept}
+use Rattle.fd_column.specs.RowNumbers.{renumber, renumbered}
+use Rattle.fd_column.proofs.NumberLaws.{there_kept}
 use Rattle.fd_column.proofs.part.ColumnPart.row.Goals as goal
 
 pub returns : goal.returns

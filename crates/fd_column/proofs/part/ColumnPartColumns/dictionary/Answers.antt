@@ -1,8 +1,8 @@
 use Rattle.std.proofs.Common.{◌≡◌, ◌∙◌, ap, subst}
-use Rattle.fd_column.specs.Numbering.{renumbered}
+use Rattle.fd_column.specs.RowNumbers.{renumbered}
 use Rattle.std.specs.Prelude.{slice_get, IfSome}
 use Rattle.fd_column.specs.Cells.{has_texts}
-use Rattle.fd_column.proofs.GivenLaws.{columns_kept, texts_kept}
+use Rattle.fd_column.proofs.NumberLaws.{columns_kept, texts_kept}
 use Rattle.fd_column.proofs.part.ColumnPartColumns.dictionary.Goals as goal
 
 pub returns-clause-kind : goal.returns-clause-kind

@@ -1,8 +1,8 @@
 use Rattle.std.proofs.Common.{◌≡◌, ◌∙◌, ap, subst}
-use Rattle.fd_column.specs.Numbering.{renumbered}
+use Rattle.fd_column.specs.RowNumbers.{renumbered}
 use Rattle.std.specs.Prelude.{Some, slice_get, IfSome}
 use Rattle.fd_column.specs.Cells.{label}
-use Rattle.fd_column.proofs.GivenLaws.{columns_kept, unlabelled_kept}
+use Rattle.fd_column.proofs.NumberLaws.{columns_kept, unlabelled_kept}
 use Rattle.fd_column.proofs.part.ColumnPartColumns.label_column.Goals as goal
 
 pub returns-clause-found : goal.returns-clause-found

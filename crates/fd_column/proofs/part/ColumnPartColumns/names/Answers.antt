@@ -1,7 +1,7 @@
 use Rattle.std.proofs.Common.{◌∙◌, ap, map}
-use Rattle.fd_column.specs.Numbering.{renumbered}
+use Rattle.fd_column.specs.RowNumbers.{renumbered}
 use Rattle.fd_column.specs.Cells.{column_name}
-use Rattle.fd_column.proofs.GivenLaws.{columns_kept}
+use Rattle.fd_column.proofs.NumberLaws.{columns_kept}
 use Rattle.fd_column.proofs.part.ColumnPartColumns.names.Goals as goal
 
 pub returns : goal.returns

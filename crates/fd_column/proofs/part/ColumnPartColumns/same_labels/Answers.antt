@@ -1,5 +1,5 @@
 use Rattle.std.proofs.Common.{◌∙◌, ap}
-use Rattle.fd_column.specs.Numbering.{renumbered}
+use Rattle.fd_column.specs.RowNumbers.{renumbered}
 use Rattle.fd_column.proofs.EqualLabels.{same_labels_kept}
 use Rattle.fd_column.proofs.part.ColumnPartColumns.same_labels.Goals as goal
 

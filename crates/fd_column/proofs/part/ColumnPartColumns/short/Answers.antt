@@ -1,6 +1,6 @@
 use Rattle.std.proofs.Common.{◌∙◌, ap}
-use Rattle.fd_column.specs.Numbering.{renumbered}
-use Rattle.fd_column.proofs.GivenLaws.{short_kept}
+use Rattle.fd_column.specs.RowNumbers.{renumbered}
+use Rattle.fd_column.proofs.NumberLaws.{short_kept}
 use Rattle.fd_column.proofs.part.ColumnPartColumns.short.Goals as goal
 
 pub returns : goal.returns

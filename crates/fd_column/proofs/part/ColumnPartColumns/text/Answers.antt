@@ -1,8 +1,8 @@
 use Rattle.std.proofs.Common.{◌∙◌, ap, sym, subst, map, length}
-use Rattle.fd_column.specs.Numbering.{renumbered}
+use Rattle.fd_column.specs.RowNumbers.{renumbered}
 use Rattle.std.proofs.Common.{◌<◌}
 use Rattle.fd_column.specs.Cells.{column_name}
-use Rattle.fd_column.proofs.GivenLaws.{columns_kept, text_kept}
+use Rattle.fd_column.proofs.NumberLaws.{columns_kept, text_kept}
 use Rattle.fd_column.proofs.part.ColumnPartColumns.text.Goals as goal
 
 pub text-requires-clause-column : goal.text-requires-clause-column

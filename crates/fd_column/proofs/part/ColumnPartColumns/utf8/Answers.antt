@@ -1,8 +1,8 @@
 use Rattle.std.proofs.Common.{◌∙◌, ap, map, subst}
 use Rattle.std.specs.Prelude.{All, IsUtf8}
-use Rattle.fd_column.specs.Numbering.{renumbered}
+use Rattle.fd_column.specs.RowNumbers.{renumbered}
 use Rattle.fd_column.specs.Cells.{column_name}
-use Rattle.fd_column.proofs.GivenLaws.{columns_kept, utf8_kept}
+use Rattle.fd_column.proofs.NumberLaws.{columns_kept, utf8_kept}
 use Rattle.fd_column.proofs.part.ColumnPartColumns.utf8.Goals as goal
 
 pub returns-clause-texts : goal.returns-clause-texts

@@ -3,8 +3,8 @@ use Rattle.std.proofs.lemmas.Int.{to_z_pos}
 use Rattle.std.specs.Prelude.{Some}
 use Rattle.std.specs.Arc.{arc_value}
 use Rattle.fd_column.specs.Cells.{column_name}
-use Rattle.fd_column.specs.Numbering.{renumbered, IsGiven}
-use Rattle.fd_column.proofs.GivenLaws.{columns_kept, whole_kept, whole_given, whole_own}
+use Rattle.fd_column.specs.RowNumbers.{renumbered, IsGiven}
+use Rattle.fd_column.proofs.NumberLaws.{columns_kept, whole_kept, whole_given, whole_own}
 use Rattle.fd_column.proofs.part.ColumnPartColumns.whole.Goals as goal
 
 pub whole-requires-clause-column : goal.whole-requires-clause-column
@@ -28,8 +28,8 @@ returns-in-None c =
 pub returns-then-column-eq0 : goal.returns-then-column-eq0
 returns-then-column-eq0 c =
     ap (λ n. Some n) (to_z_pos w64 c.in-Some.number (subst (λ given. IsGiven given) c.in-Some.is c.self.invariant))
-    ∙ whole_given c.in-Some.number (arc_value c.self.inside.body) c.args.self.now c.args.column c.args.at
-    (ap (λ given. renumbered given (arc_value c.self.inside.body)) (sym c.in-Some.is) ∙ c.self.view_is)
+    ∙ whole_given c.in-Some.number (arc_value c.self.inside.table) c.args.self.now c.args.column c.args.at
+    (ap (λ given. renumbered given (arc_value c.self.inside.table)) (sym c.in-Some.is) ∙ c.self.view_is)
     c.if-column-eq0.true
     c.requires.at
 

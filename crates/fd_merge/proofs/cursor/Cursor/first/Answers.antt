@@ -1,6 +1,6 @@
 use Rattle.std.proofs.Common.{◌∙◌, sym, ap}
 use Rattle.std.specs.Prelude.{slice_get}
-use Rattle.fd_merge.proofs.Rests.{first_of_rest}
+use Rattle.fd_merge.proofs.Remainders.{first_of_rest}
 use Rattle.fd_merge.proofs.cursor.Cursor.first.Goals as goal
 
 pub returns : goal.returns

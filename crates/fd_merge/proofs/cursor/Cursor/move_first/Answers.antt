@@ -1,8 +1,8 @@
 use Rattle.std.proofs.Common.{◌∙◌, sym, ap, subst, arith, ◌<◌, length, drop}
 use Rattle.std.specs.Prelude.{IsSome, All}
-use Rattle.fd_column.specs.Numbering.{IsNumber}
-use Rattle.fd_merge.specs.Merging.{MovesFirst}
-use Rattle.fd_merge.proofs.Rests.{some_first, inside_from, small_first, first_moves}
+use Rattle.fd_column.specs.RowNumbers.{IsNumber}
+use Rattle.fd_merge.specs.Merges.{MovesFirst}
+use Rattle.fd_merge.proofs.Remainders.{some_first, inside_from, small_first, first_moves}
 use Rattle.fd_merge.proofs.cursor.Cursor.move_first.Goals as goal
 
 pub unwrap-row-requires : goal.unwrap-row-requires

@@ -1,7 +1,7 @@
 use Rattle.std.proofs.Common.{List, subst, sym}
 use Rattle.std.specs.Prelude.{IsSorted}
 use Rattle.fd_kinds.specs.declared.row.Numbered.{Numbered}
-use Rattle.fd_column.specs.Numbering.{numbered_cmp}
+use Rattle.fd_column.specs.RowNumbers.{numbered_cmp}
 use Rattle.fd_parquet.proofs.rising.RisingRows.finish.Goals as goal
 
 pub finish-requires : goal.finish-requires
