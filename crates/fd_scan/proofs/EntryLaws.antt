@@ -23,16 +23,9 @@ tied a b = sym (texts_ties a b)
 abbrev later : ℕ → Option ℕ → Option ℕ
 later at o = option_map (λ pick. pick + at) o
 
-later_none : (o : Option ℕ) → o ≡ later 0 o
-later_none None = refl
-later_none (Some p) = ap Some (omega arith)
-
 later_more : (at : ℕ) (o : Option ℕ) → later at (option_map (λ pick. suc pick) o) ≡ later (at + 1) o
 later_more at None = refl
 later_more at (Some p) = ap Some (omega arith)
-
-pub pick_none : (es : List (List ℕ)) (text : List ℕ) → pick_in es text ≡ later 0 (pick_in (drop 0 es) text)
-pick_none es text = later_none (pick_in es text)
 
 from : (es : List (List ℕ)) (at : ℕ) (e : List ℕ) → slice_get es at ≡ Some e → drop at es ≡ e ∷ drop (suc at) es
 from [] at e h = cc
@@ -69,14 +62,6 @@ pick_found es at text is before =
     ∙ ap (λ l. later at (pick_in l text)) (there es at text is)
     ∙ ap (λ b. later at (cond b (Some 1) (option_map (λ pick. suc pick) (pick_in (drop (at + 1) es) text)))) (tied text text ∙ bytes_same text))
     ∙ ap Some (omega arith)
-
-pub pick_absent : (es : List (List ℕ)) (text : List ℕ) (at : ℕ) → at ≡ length es → pick_in es text ≡ later at (pick_in (drop at es) text) → entry_at es text ≡ None
-pick_absent es text at all before =
-    ap (option_map (λ pick. pick - 1)) (before ∙ ap (λ l. later at (pick_in l text)) (ap (λ n. drop n es) all ∙ nothing es))
-  where
-    nothing : (xs : List (List ℕ)) → drop (length xs) xs ≡ []
-    nothing [] = refl
-    nothing (x ∷ xs) = nothing xs
 
 -- ---- a text of the column has a place, where it stands
 

@@ -177,8 +177,3 @@ selector_kept rows window selector all a b c ea eb ec =
 
     m : ℕ → Bool
     m at = list_all (is_match (row_at rows at)) selector.matchers
-
-pub window_kept : (rows : List Numbered) (window : Window) (all a : List ℕ)
-    → a ≡ filter (λ at. is_in_time window None (row_at rows at)) all
-    → a ≡ filter (λ at. is_within window (row_at rows at)) all
-window_kept rows window all a ea = ea ∙ filter_agree _ _ (λ at. and_true (is_within window (row_at rows at))) all

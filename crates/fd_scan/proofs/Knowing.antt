@@ -66,20 +66,6 @@ nothing_more [] none (suc entry) = refl
 nothing_more (x ∷ known) none zero = none zero
 nothing_more (x ∷ known) none (suc entry) = nothing_more known (λ e. none (suc e)) entry
 
-nothing_there : (known : List (Option ℕ)) → ((entry : ℕ) → get_or known entry None ≡ None) → (slot : ℕ) (o : Option ℕ) → known_slot known o ≡ Some slot → ⊥
-nothing_there known none slot None is = cc
-nothing_there known none slot (Some entry) is = let n : get_or known entry None ≡ None = none entry in cc
-
-pub knows_nothing : (rows : List Numbered) (slots : BTreeMap Stack ℕ) (known : List (Option ℕ)) → ((entry : ℕ) → get_or known entry None ≡ None) → KnowsSlots rows slots known
-knows_nothing rows slots known none = record {
-  each = λ at slot h is. absurd (nothing_there known none slot (index_in (column_texts rows 7) at) is);
-}
-
-pub knows_still : (rows : List Numbered) (m n : BTreeMap Stack ℕ) (known : List (Option ℕ)) → KeepsSlots m n → KnowsSlots rows m known → KnowsSlots rows n known
-knows_still rows m n known keeps before = record {
-  each = λ at slot h is. keeps.each (row_at rows at).stack slot (before.each at slot h is);
-}
-
 noted_same : (known : List (Option ℕ)) (entry slot s : ℕ) → get_or (set known entry (Some slot)) entry None ≡ Some s → s ≡ slot
 noted_same [] zero slot s is = cc
 noted_same [] (suc entry) slot s is = cc

@@ -6,7 +6,6 @@ pub mod Keeping
 pub mod Knowing
 pub mod LabelKeys
 pub mod LabelPlaces
-pub mod Looked
 pub mod Occurred
 pub mod Outcomes
 pub mod Ranged

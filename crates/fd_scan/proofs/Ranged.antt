@@ -9,7 +9,7 @@ use Rattle.fd_kinds.specs.RowOrder.{labels_cmp}
 use Rattle.fd_kinds.specs.Meaning.{ranges_of, points_of}
 use Rattle.fd_scan.specs.Adding.{Adds, FindsSame}
 use Rattle.fd_scan.specs.Grouped.{ArePoints, AreRanges}
-use Rattle.fd_scan.proofs.Grouped.{IsMore, groups_more, groups_replaced, groups_listed, same_groups}
+use Rattle.fd_scan.proofs.Grouped.{IsMore, groups_more, groups_replaced, groups_listed}
 use Rattle.fd_scan.proofs.LabelKeys.{labels_cmp_total, labels_cmp_exact}
 use Rattle.fd_scan.proofs.Summed.{points_with, points_same, points_from_map, to_point}
 
@@ -57,10 +57,6 @@ pub ranges_kept : (m n : BTreeMap Labels Points) (rows : List Row) (labels : Lab
     → AreRanges m rows → AreRanges n rows
 ranges_kept m n rows labels x y rising is updates same before =
     groups_replaced labels_cmp_total labels_cmp_exact labels_of ArePoints m n rows labels x y rising is updates (λ some points. points_same x y some same points) before
-
--- a map that finds the same
-pub ranges_same : (m n : BTreeMap Labels Points) (rows : List Row) → IsOrdered labels_cmp n → ((q : Labels) → get labels_cmp n q ≡ get labels_cmp m q) → AreRanges m rows → AreRanges n rows
-ranges_same m n rows rising same before = same_groups labels_cmp_total labels_cmp_exact labels_of ArePoints m n rows rising same before
 
 abbrev pub to_range : Labels × Points → OneRange
 to_range e = record { labels = e.0; points = map to_point e.1.entries }

@@ -1,5 +1,5 @@
 -- The rows at the places that count are the rows that count.
-use Rattle.std.proofs.Common.{◌≡◌, ℕ, zero, suc, ◌<◌, ◌+◌, Bool, true, false, cond, List, [], ◌∷◌, ◌++◌, map, length, take, get_or, refl, sym, ◌∙◌, ap, subst, arith, append-nil}
+use Rattle.std.proofs.Common.{◌≡◌, ℕ, zero, suc, ◌<◌, ◌+◌, Bool, true, false, cond, List, [], ◌∷◌, ◌++◌, map, length, take, get_or, refl, sym, ◌∙◌, ap, subst, arith}
 use Rattle.std.specs.Prelude.{filter, All, Some, None}
 use Rattle.std.specs.List.{range_with_len}
 use Rattle.std.proofs.lemmas.List.{take-map}
@@ -104,9 +104,6 @@ gathered_first q rows places old new are (k, step) =
             (step q (counted q before) held.groups);
       },
     )
-
-pub gathered_none : (q : Query) (rows : List Row) (old : Gathered) → (k : ℕ) × ((before : List Row) → AreGathered q before old → AreGathered q (before ++ take k rows) old)
-gathered_none q rows old = (0, λ before held. subst (λ l. AreGathered q l old) (sym (append-nil before)) held)
 
 -- ---- the places lie in the columns
 

@@ -106,9 +106,6 @@ new_kept m n stack stored slot is none puts = record {
         absurd (cc)
     by q s found false e = found
 
-pub new_found : (m n : Slots) (stack stored : Stack) (slot : ℕ) → stored ≡ stack → Puts m n stored slot → get stack_cmp n stack ≡ Some slot
-new_found m n stack stored slot is puts = puts stack ∙ ap (λ b. cond b (Some slot) (get stack_cmp m stack)) (stack_same stored stack is)
-
 pub new_more : (m n : Slots) (old new : List ℤ) (stack stored : Stack) (slot : ℕ) (value added before after : ℤ)
     → IsOrdered stack_cmp n → stored ≡ stack → get stack_cmp m stack ≡ None → Puts m n stored slot
     → slot ≡ length old → new ≡ old ++ added ∷ [] → added ≡ value → after ≡ before +ℤ value
@@ -182,6 +179,3 @@ no_sums m sums empty = record {
     none a s found = let p : None ≡ Some s = sym (ap (lookup (is_at (stack_cmp a))) empty) ∙ found in cc
 
 -- ---- the places that stay
-
-pub slots_stay : (m n : Slots) → n.entries ≡ m.entries → KeepsSlots m n
-slots_stay m n same = record { each = λ stack slot found. ap (lookup (is_at (stack_cmp stack))) same ∙ found }

@@ -40,7 +40,7 @@ abbrev pub AreGroups : Query → List Row → Groups → Type 0
 AreGroups (query.Types window) rows (groups.Types types) = AreDistinct type_cmp types.found.keys types.last (map type_of rows)
 AreGroups (query.LabelNames selector window) rows (groups.Names names) = names.keys ≡ label_names rows
 AreGroups (query.Values name selector window) rows (groups.Values values) = (values.name ≡ name) × (values.found.keys ≡ label_values name rows)
-AreGroups (query.Series selector window) rows (groups.Series series) = AreDistinct series_cmp series.found.keys series.last (map series_of rows)
+AreGroups (query.Series selector window) rows (groups.Series series) = AreDistinct series_cmp series.keys None (map series_of rows)
 AreGroups (query.Range selector window) rows (groups.Range ranges) = AreRanges ranges rows
 AreGroups (query.Merge selector window) rows (groups.Merge sums) = AreSums sums.slots sums.sums.items sums.total rows
 AreGroups query rows other = ⊥

@@ -1,4 +1,4 @@
-ghost use Rattle.std.specs.Prelude.{◌≡◌, ◌<◌, length, All, ℕ, List, [], ◌∷◌, ◌++◌, take, OnOk, OnErr, IfOk};
+ghost use Rattle.std.specs.Prelude.{◌≡◌, ◌<◌, length, All, ℕ, List, [], ◌++◌, take, OnOk, OnErr, IfOk};
 ghost use Rattle.fd_kinds.specs.declared.row.Row.{Row};
 ghost use Rattle.fd_kinds.specs.declared.query.Query.{Query};
 ghost use Rattle.fd_kinds.specs.Meaning.{meaning};
@@ -6,19 +6,18 @@ ghost use Rattle.fd_kinds.specs.Parts.{rows_of};
 ghost use Rattle.fd_scan.specs.Places.{rows_at};
 ghost use Rattle.fd_scan.specs.Gathers.{AreGathered, AreGroups, counted};
 
-use crate::counting::counts;
-use crate::names::{LabelValues, add_names};
+use crate::names::LabelValues;
 use crate::occurring::add_names_of;
 use crate::places::counted_places;
-use crate::ranges::{Ranges, add_ranges_at, add_to_range, listed_ranges};
+use crate::ranges::{Ranges, add_ranges_at, listed_ranges};
 use crate::recent::Recent;
-use crate::series::{add_series, add_series_at};
+use crate::series::add_series_at;
 use crate::sets::listed;
 use crate::summing::add_sums;
 use crate::sums::Sums;
-use crate::types::{add_type, add_types_at};
+use crate::types::add_types_at;
 use fd_column::Columns;
-use fd_kinds::{Answer, NoMemory, ProfileType, Query, Row, SeriesName, Share, Text};
+use fd_kinds::{Answer, NoMemory, ProfileType, Query, SeriesName, Share, Text};
 use std::alloc::Global;
 use std::collections::{BTreeMap, BTreeSet};
 
@@ -28,13 +27,13 @@ enum Groups {
     Types(Recent<ProfileType>),
     Names(BTreeSet<Text>),
     Values(LabelValues),
-    Series(Recent<SeriesName>),
+    Series(BTreeSet<SeriesName>),
     Range(Ranges),
     Merge(Sums),
 }
 
-/// What was gathered of rows for one query so far. A slice of rows after the other is gathered into
-/// it; what it says of them is for the query that it was made for.
+/// What was gathered of rows for one query so far. The columns of one part after the other are scanned
+/// into it; what it says of them is for the query that it was made for.
 #[derive(Drop)]
 pub struct Gathered {
     alloc: Global,
@@ -52,30 +51,10 @@ impl Groups {
                 name: name.share()?,
                 found: BTreeSet::new(alloc),
             }),
-            Query::Series { .. } => Groups::Series(Recent::new(alloc)),
+            Query::Series { .. } => Groups::Series(BTreeSet::new(alloc)),
             Query::Range { .. } => Groups::Range(BTreeMap::new(alloc)),
             Query::Merge { .. } => Groups::Merge(Sums::new(alloc)),
         })
-    }
-
-    /// Adds a row that counts for the query, or nothing where memory is wanting.
-    fn add(&mut self, alloc: Global, row: &Row) -> Result<(), NoMemory>
-        ensures ok { OnOk result (
-            (query : Query) → (rows : List Row) → AreGroups query rows self.old
-            → AreGroups query (rows ++ row.now ∷ []) self.new) }
-        ensures err { OnErr result (
-            (query : Query) → (rows : List Row) → AreGroups query rows self.old → AreGroups query rows self.new) }
-    {
-        match self {
-            Groups::Types(types) => add_type(types, row),
-            Groups::Names(names) => add_names(names, &row.labels),
-            Groups::Values(values) => values.add(row),
-            Groups::Series(series) => add_series(series, row),
-            Groups::Range(ranges) => {
-                add_to_range(alloc, ranges, &row.labels, row.timestamp, row.value)
-            }
-            Groups::Merge(sums) => sums.add_row(row),
-        }
     }
 
     /// Adds the rows at the places, which count for the query; after a refusal a first part of them.
@@ -114,7 +93,7 @@ impl Groups {
                 let LabelValues { name: _, found } = values;
                 Answer::Values(listed(alloc, found)?)
             }
-            Groups::Series(series) => Answer::Series(listed(alloc, series.into_set())?),
+            Groups::Series(series) => Answer::Series(listed(alloc, series)?),
             Groups::Range(ranges) => Answer::Range(listed_ranges(alloc, ranges)?),
             Groups::Merge(sums) => {
                 let (stacks, total) = sums.into_list(alloc)?;
@@ -133,36 +112,6 @@ impl Gathered {
             alloc,
             groups: Groups::new(alloc, query)?,
         })
-    }
-
-    /// Gathers one row, or nothing where memory is wanting.
-    fn gather_row(&mut self, query: &Query, row: &Row) -> Result<(), NoMemory>
-        ensures ok { OnOk result (
-            (before : List Row) → AreGathered query.now before self.old
-            → AreGathered query.now (before ++ row.now ∷ []) self.new) }
-        ensures err { OnErr result (
-            (before : List Row) → AreGathered query.now before self.old → AreGathered query.now before self.new) }
-    {
-        if counts(query, row) {
-            self.groups.add(self.alloc, row)?;
-        }
-        Ok(())
-    }
-
-    /// Gathers the rows, those that count for the query among them; after a refusal a first part of
-    /// them. The query is the one that `new` took.
-    pub fn gather(&mut self, query: &Query, rows: &[Row]) -> Result<(), NoMemory>
-        ensures ok { OnOk result (
-            (before : List Row) → AreGathered query.now before self.old
-            → AreGathered query.now (before ++ rows.now) self.new) }
-        ensures err { OnErr result (
-            (k : ℕ) × ((before : List Row) → AreGathered query.now before self.old
-            → AreGathered query.now (before ++ take k rows.now) self.new)) }
-    {
-        for row in rows {
-            self.gather_row(query, row)?;
-        }
-        Ok(())
     }
 
     /// What the query means over the rows that were gathered.

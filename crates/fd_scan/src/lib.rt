@@ -2,7 +2,6 @@
 #![tactic(auto)]
 
 mod cells;
-mod counting;
 mod entries;
 mod gathered;
 mod laws;

@@ -1,6 +1,6 @@
 ghost use Rattle.std.specs.Prelude.{◌≡◌, ◌<◌, ℕ, length, take, List, [], ◌∷◌, ◌++◌, map, All, OnOk, OnErr, IfOk, IfSome};
 ghost use Rattle.fd_kinds.specs.declared.row.Row.{Row};
-ghost use Rattle.fd_kinds.specs.Meaning.{points_of, ranges_of};
+ghost use Rattle.fd_kinds.specs.Meaning.{ranges_of};
 ghost use Rattle.std.specs.Ordering.{int_cmp};
 ghost use Rattle.fd_scan.specs.Adding.{Adds, FindsSame};
 ghost use Rattle.fd_scan.specs.Places.{row_at, rows_at};

@@ -5,46 +5,10 @@ ghost use Rattle.fd_scan.specs.Places.{row_at, rows_at};
 ghost use Rattle.fd_scan.specs.Recents.{AreDistinct, last_series};
 
 use crate::cells::{has_same_labels, has_same_name, labels_at, name_at};
-use crate::recent::Recent;
 use fd_column::Columns;
-use fd_kinds::{NoMemory, Row, SeriesName, Share};
+use fd_kinds::{NoMemory, SeriesName};
 use std::alloc::Global;
 use std::collections::BTreeSet;
-
-/// A copy of the name and the labels of the row's series.
-fn series_of(row: &Row) -> Result<SeriesName, NoMemory>
-    ensures { IfOk result (λ series. series ≡ series_of row.now) }
-{
-    Ok(SeriesName {
-        name: row.name.share()?,
-        labels: row.labels.share()?,
-    })
-}
-
-/// Whether the last series is the row's.
-fn is_last(series: &Recent<SeriesName>, row: &Row) -> bool
-    ensures { Decides result (series.now.last ≡ Some (series_of row.now)) }
-{
-    match &series.last {
-        Some(last) => last.name == row.name && last.labels.cmp(&row.labels).is_eq(),
-        None => false,
-    }
-}
-
-/// Adds the row's series.
-pub fn add_series(series: &mut Recent<SeriesName>, row: &Row) -> Result<(), NoMemory>
-    ensures ok { OnOk result (
-        (rows : List Row) → AreDistinct series_cmp series.old.found.keys series.old.last (map series_of rows)
-        → AreDistinct series_cmp series.new.found.keys series.new.last (map series_of (rows ++ row.now ∷ []))) }
-    ensures err { OnErr result (
-        (rows : List Row) → AreDistinct series_cmp series.old.found.keys series.old.last (map series_of rows)
-        → AreDistinct series_cmp series.new.found.keys series.new.last (map series_of rows)) }
-{
-    if is_last(series, row) {
-        return Ok(());
-    }
-    series.add(series_of(row)?, series_of(row)?)
-}
 
 /// A copy of the name and the labels of the series of the row at a place.
 fn series_at<C: Columns>(alloc: Global, columns: &C, at: usize) -> Result<SeriesName, NoMemory>
@@ -102,7 +66,7 @@ fn add_behind<C: Columns>(
 
 /// Adds the series of the rows at the places; after a refusal those of a first part of them. Of
 /// rows that stand together with one series only the first has it copied.
-fn add_all<C: Columns>(
+pub fn add_series_at<C: Columns>(
     alloc: Global,
     found: &mut BTreeSet<SeriesName>,
     columns: &C,
@@ -122,23 +86,4 @@ fn add_all<C: Columns>(
         last = Some(*at);
     }
     Ok(())
-}
-
-/// Adds the series of the rows at the places; after a refusal those of a first part of them.
-pub fn add_series_at<C: Columns>(
-    alloc: Global,
-    series: &mut Recent<SeriesName>,
-    columns: &C,
-    places: &[usize],
-) -> Result<(), NoMemory>
-    requires { All (λ at. at < length (C.rows columns.now)) places.now }
-    ensures ok { OnOk result (
-        (rows : List Row) → AreDistinct series_cmp series.old.found.keys series.old.last (map series_of rows)
-        → AreDistinct series_cmp series.new.found.keys series.new.last (map series_of (rows ++ rows_at (C.rows columns.now) places.now))) }
-    ensures err { OnErr result (
-        (k : ℕ) × ((rows : List Row) → AreDistinct series_cmp series.old.found.keys series.old.last (map series_of rows)
-        → AreDistinct series_cmp series.new.found.keys series.new.last (map series_of (rows ++ rows_at (C.rows columns.now) (take k places.now))))) }
-{
-    series.last = None;
-    add_all(alloc, &mut series.found, columns, places)
 }

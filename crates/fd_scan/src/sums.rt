@@ -7,7 +7,7 @@ ghost use Rattle.fd_scan.specs.Grouped.{AreSums, AreStackSums, KeepsSlots};
 ghost use Rattle.fd_scan.specs.Adding.{AddsWhereFound};
 ghost use Rattle.fd_kinds.specs.Meaning.{stack_cmp};
 
-use fd_kinds::{Items, NoMemory, Row, Share, Stack, StackSum, StackSums};
+use fd_kinds::{Items, NoMemory, Share, Stack, StackSum, StackSums};
 use std::alloc::Global;
 use std::collections::BTreeMap;
 
@@ -147,19 +147,6 @@ impl Sums {
             }
             None => self.add_new(stack, value),
         }
-    }
-
-    /// Adds the row's value.
-    pub fn add_row(&mut self, row: &Row) -> Result<(), NoMemory>
-        ensures ok { OnOk result (
-            (rows : List Row) → AreSums self.old.slots self.old.sums.items self.old.total rows
-            → AreSums self.new.slots self.new.sums.items self.new.total (rows ++ row.now ∷ [])) }
-        ensures err { OnErr result (
-            (rows : List Row) → AreSums self.old.slots self.old.sums.items self.old.total rows
-            → AreSums self.new.slots self.new.sums.items self.new.total rows) }
-    {
-        self.add(&row.stack, row.value)?;
-        Ok(())
     }
 
     /// The sums as a list, and the total.

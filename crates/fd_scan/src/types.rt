@@ -10,50 +10,10 @@ use crate::cells::{
     NAME, PERIOD_TYPE, PERIOD_UNIT, SAMPLE_TYPE, SAMPLE_UNIT, duration_at, has_cell, text_at,
     text_column,
 };
-use crate::matching::is_of_type;
 use crate::recent::Recent;
 use fd_column::Columns;
-use fd_kinds::{NoMemory, ProfileType, Row, Share};
+use fd_kinds::{NoMemory, ProfileType};
 use std::alloc::Global;
-
-/// A copy of the row's profile type.
-fn type_of(row: &Row) -> Result<ProfileType, NoMemory>
-    ensures { IfOk result (λ kind. kind ≡ type_of row.now) }
-{
-    Ok(ProfileType {
-        name: row.name.share()?,
-        sample_type: row.sample_type.share()?,
-        sample_unit: row.sample_unit.share()?,
-        period_type: row.period_type.share()?,
-        period_unit: row.period_unit.share()?,
-        delta: row.duration != 0,
-    })
-}
-
-/// Whether the last type is the row's.
-fn is_last(types: &Recent<ProfileType>, row: &Row) -> bool
-    ensures { Decides result (types.now.last ≡ Some (type_of row.now)) }
-{
-    match &types.last {
-        Some(kind) => is_of_type(row, kind),
-        None => false,
-    }
-}
-
-/// Adds the row's profile type.
-pub fn add_type(types: &mut Recent<ProfileType>, row: &Row) -> Result<(), NoMemory>
-    ensures ok { OnOk result (
-        (rows : List Row) → AreDistinct type_cmp types.old.found.keys types.old.last (map type_of rows)
-        → AreDistinct type_cmp types.new.found.keys types.new.last (map type_of (rows ++ row.now ∷ []))) }
-    ensures err { OnErr result (
-        (rows : List Row) → AreDistinct type_cmp types.old.found.keys types.old.last (map type_of rows)
-        → AreDistinct type_cmp types.new.found.keys types.new.last (map type_of rows)) }
-{
-    if is_last(types, row) {
-        return Ok(());
-    }
-    types.add(type_of(row)?, type_of(row)?)
-}
 
 /// Whether the cells of the row at a place have the five texts of the type.
 fn cells_have_texts<C: Columns>(columns: &C, at: usize, kind: &ProfileType) -> bool

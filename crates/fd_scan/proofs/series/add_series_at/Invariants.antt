@@ -4,7 +4,7 @@ use Rattle.fd_kinds.specs.declared.row.Row.{Row}
 use Rattle.fd_kinds.specs.Meaning.{series_of, series_cmp}
 use Rattle.fd_scan.specs.Places.{rows_at}
 use Rattle.fd_scan.specs.Recents.{AreDistinct, last_series}
-use Rattle.fd_scan.proofs.series.add_all.Given as goal
+use Rattle.fd_scan.proofs.series.add_series_at.Given as goal
 
 abbrev pub invariant-loop-at : goal.invariant-loop-at
 invariant-loop-at g l =
