@@ -1,6 +1,6 @@
 //! Answers of queries over parts.
 #![tactic(auto)]
 
-mod answering;
+mod answers;
 
-pub use answering::answer;
+pub use answers::answer;

@@ -5,8 +5,8 @@ use Rattle.fd_kinds.specs.declared.row.Numbered.{Numbered}
 use Rattle.fd_kinds.specs.declared.query.ProfileType.{ProfileType}
 use Rattle.fd_kinds.specs.Meaning.{type_of}
 use Rattle.fd_column.specs.Cells.{column_texts}
-use Rattle.fd_scan.specs.Places.{row_at, text_of, has_text, has_texts}
-use Rattle.fd_scan.proofs.CellsRead.{name_read, sample_type_read, sample_unit_read, period_type_read, period_unit_read}
+use Rattle.fd_scan.specs.RowPlaces.{row_at, text_of, has_text, has_texts}
+use Rattle.fd_scan.proofs.CellValues.{name_read, sample_type_read, sample_unit_read, period_type_read, period_unit_read}
 
 pub type_made : (rows : List Numbered) (at : ℕ) (kind : ProfileType)
     → kind.name ≡ text_of (column_texts rows 1) at

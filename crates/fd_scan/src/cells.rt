@@ -1,6 +1,6 @@
 ghost use Rattle.std.specs.Prelude.{◌≡◌, ◌<◌, true, length, IfOk, Decides};
 ghost use Rattle.fd_column.specs.Cells.{column_texts, is_text_column};
-ghost use Rattle.fd_scan.specs.Places.{row_at, text_of, has_text};
+ghost use Rattle.fd_scan.specs.RowPlaces.{row_at, text_of, has_text};
 
 use fd_column::{Columns, Dictionary, text_of};
 use fd_kinds::{Labels, NoMemory, Stack, Text};
@@ -60,7 +60,7 @@ pub fn text_at<C: Columns>(
 }
 
 /// A copy of a row's name.
-#[tactic(auto, using(crate::proofs::CellsRead::name_read))]
+#[tactic(auto, using(crate::proofs::CellValues::name_read))]
 pub fn name_at<C: Columns>(alloc: Global, columns: &C, at: usize) -> Result<Text, NoMemory>
     ensures { IfOk result (λ text. text ≡ (row_at (C.rows columns.now) at).name) }
 {
@@ -68,7 +68,7 @@ pub fn name_at<C: Columns>(alloc: Global, columns: &C, at: usize) -> Result<Text
 }
 
 /// Whether a cell has the text; an absent one has the empty text.
-#[tactic(auto, using(crate::proofs::EntryLaws::empty_text))]
+#[tactic(auto, using(crate::proofs::LookupLaws::empty_text))]
 pub fn has_cell(cells: &Dictionary, at: usize, text: &Text) -> bool
     ensures { result ≡ has_text cells.now text.now at }
 {
@@ -79,7 +79,7 @@ pub fn has_cell(cells: &Dictionary, at: usize, text: &Text) -> bool
 }
 
 /// The labels of a row's series.
-#[tactic(auto, using(crate::proofs::CellsRead::labels_read))]
+#[tactic(auto, using(crate::proofs::CellValues::labels_read))]
 pub fn labels_at<C: Columns>(columns: &C, at: usize) -> Result<Labels, NoMemory>
     requires { at < length (C.rows columns.now) }
     ensures { IfOk result (λ labels. labels ≡ (row_at (C.rows columns.now) at).labels) }
@@ -97,7 +97,7 @@ pub fn has_same_labels<C: Columns>(columns: &C, a: usize, b: usize) -> bool
 }
 
 /// Whether two rows have the same name.
-#[tactic(auto, using(crate::proofs::CellsRead::same_name))]
+#[tactic(auto, using(crate::proofs::CellValues::same_name))]
 pub fn has_same_name<C: Columns>(columns: &C, a: usize, b: usize) -> bool
     ensures same { result ≡ true → (row_at (C.rows columns.now) a).name ≡ (row_at (C.rows columns.now) b).name }
     ensures decided { a < length (C.rows columns.now) → b < length (C.rows columns.now) → Decides result ((row_at (C.rows columns.now) a).name ≡ (row_at (C.rows columns.now) b).name) }
@@ -106,7 +106,7 @@ pub fn has_same_name<C: Columns>(columns: &C, a: usize, b: usize) -> bool
 }
 
 /// The stack of a row.
-#[tactic(auto, using(crate::proofs::CellsRead::stack_read))]
+#[tactic(auto, using(crate::proofs::CellValues::stack_read))]
 pub fn stack_at<C: Columns>(columns: &C, at: usize) -> Result<Stack, NoMemory>
     requires { at < length (C.rows columns.now) }
     ensures { IfOk result (λ stack. stack ≡ (row_at (C.rows columns.now) at).stack) }
@@ -115,7 +115,7 @@ pub fn stack_at<C: Columns>(columns: &C, at: usize) -> Result<Stack, NoMemory>
 }
 
 /// The timestamp of a row, in milliseconds since the Unix epoch.
-#[tactic(auto, using(crate::proofs::CellsRead::timestamp_read, crate::proofs::CellsRead::fixed_inside))]
+#[tactic(auto, using(crate::proofs::CellValues::timestamp_read, crate::proofs::CellValues::fixed_inside))]
 pub fn timestamp_at<C: Columns>(columns: &C, at: usize) -> i64
     requires { at < length (C.rows columns.now) }
     ensures { result ≡ (row_at (C.rows columns.now) at).timestamp }
@@ -127,7 +127,7 @@ pub fn timestamp_at<C: Columns>(columns: &C, at: usize) -> i64
 }
 
 /// The duration of a row, in nanoseconds.
-#[tactic(auto, using(crate::proofs::CellsRead::duration_read, crate::proofs::CellsRead::fixed_inside))]
+#[tactic(auto, using(crate::proofs::CellValues::duration_read, crate::proofs::CellValues::fixed_inside))]
 pub fn duration_at<C: Columns>(columns: &C, at: usize) -> i64
     requires { at < length (C.rows columns.now) }
     ensures { result ≡ (row_at (C.rows columns.now) at).duration }
@@ -139,7 +139,7 @@ pub fn duration_at<C: Columns>(columns: &C, at: usize) -> i64
 }
 
 /// The value of a row.
-#[tactic(auto, using(crate::proofs::CellsRead::value_read, crate::proofs::CellsRead::fixed_inside))]
+#[tactic(auto, using(crate::proofs::CellValues::value_read, crate::proofs::CellValues::fixed_inside))]
 pub fn value_at<C: Columns>(columns: &C, at: usize) -> i64
     requires { at < length (C.rows columns.now) }
     ensures { result ≡ (row_at (C.rows columns.now) at).value }

@@ -1,22 +1,22 @@
 //! Scans of rows for queries: what a query asks of the rows is gathered, and then answered.
 #![tactic(auto)]
 
+mod aggregate;
 mod cells;
-mod entries;
-mod gathered;
+mod distinct_items;
+mod label_names;
+mod label_values;
 mod laws;
-mod matching;
-mod names;
-mod occurring;
-mod places;
+mod lookup;
+mod matchers;
 mod ranges;
-mod recent;
-mod seen;
+mod selection;
 mod series;
 mod sets;
-mod summing;
+mod stacks;
 mod sums;
+mod texts;
 mod types;
 
-pub use gathered::{Gathered, scan};
+pub use aggregate::{Gathered, scan};
 pub use laws::distinct_laws;

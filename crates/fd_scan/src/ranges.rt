@@ -2,10 +2,10 @@ ghost use Rattle.std.specs.Prelude.{◌≡◌, ◌<◌, ℕ, length, take, List,
 ghost use Rattle.fd_kinds.specs.declared.row.Row.{Row};
 ghost use Rattle.fd_kinds.specs.Meaning.{ranges_of};
 ghost use Rattle.std.specs.Ordering.{int_cmp};
-ghost use Rattle.fd_scan.specs.Adding.{Adds, FindsSame};
-ghost use Rattle.fd_scan.specs.Places.{row_at, rows_at};
-ghost use Rattle.fd_scan.specs.Labelled.{IsLabelled};
-ghost use Rattle.fd_scan.specs.Grouped.{ArePoints, AreRanges};
+ghost use Rattle.fd_scan.specs.Additions.{Adds, FindsSame};
+ghost use Rattle.fd_scan.specs.RowPlaces.{row_at, rows_at};
+ghost use Rattle.fd_scan.specs.LabelledPlaces.{IsLabelled};
+ghost use Rattle.fd_scan.specs.Groups.{ArePoints, AreRanges};
 
 use crate::cells::{has_same_labels, labels_at, timestamp_at, value_at};
 use crate::sums::added;

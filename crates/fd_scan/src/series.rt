@@ -1,8 +1,8 @@
 ghost use Rattle.std.specs.Prelude.{◌≡◌, ◌<◌, ℕ, length, take, List, [], ◌∷◌, ◌++◌, map, All, OnOk, OnErr, IfOk, IfSome, Decides, Some, None};
 ghost use Rattle.fd_kinds.specs.declared.row.Row.{Row};
 ghost use Rattle.fd_kinds.specs.Meaning.{series_of, series_cmp};
-ghost use Rattle.fd_scan.specs.Places.{row_at, rows_at};
-ghost use Rattle.fd_scan.specs.Recents.{AreDistinct, last_series};
+ghost use Rattle.fd_scan.specs.RowPlaces.{row_at, rows_at};
+ghost use Rattle.fd_scan.specs.DistinctItems.{AreDistinct, last_series};
 
 use crate::cells::{has_same_labels, has_same_name, labels_at, name_at};
 use fd_column::Columns;

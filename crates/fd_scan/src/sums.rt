@@ -3,8 +3,8 @@ ghost use Rattle.std.specs.BTreeMap.{get, IsOrdered};
 ghost use Rattle.std.specs.Ordering.{is_eq};
 ghost use Rattle.fd_kinds.specs.declared.row.Row.{Row};
 ghost use Rattle.fd_kinds.specs.Meaning.{stack_sums, value_sum};
-ghost use Rattle.fd_scan.specs.Grouped.{AreSums, AreStackSums, KeepsSlots};
-ghost use Rattle.fd_scan.specs.Adding.{AddsWhereFound};
+ghost use Rattle.fd_scan.specs.Groups.{AreSums, AreStackSums, KeepsSlots};
+ghost use Rattle.fd_scan.specs.Additions.{AddsWhereFound};
 ghost use Rattle.fd_kinds.specs.Meaning.{stack_cmp};
 
 use fd_kinds::{Items, NoMemory, Share, Stack, StackSum, StackSums};

@@ -3,14 +3,14 @@ ghost use Rattle.fd_kinds.specs.declared.row.Row.{Row};
 ghost use Rattle.fd_kinds.specs.Meaning.{type_of, type_cmp, is_of_type};
 ghost use Rattle.std.specs.Ordering.{int_eq};
 ghost use Rattle.fd_column.specs.Cells.{column_texts};
-ghost use Rattle.fd_scan.specs.Places.{row_at, rows_at, has_text, has_texts};
-ghost use Rattle.fd_scan.specs.Recents.{AreDistinct};
+ghost use Rattle.fd_scan.specs.RowPlaces.{row_at, rows_at, has_text, has_texts};
+ghost use Rattle.fd_scan.specs.DistinctItems.{AreDistinct};
 
 use crate::cells::{
     NAME, PERIOD_TYPE, PERIOD_UNIT, SAMPLE_TYPE, SAMPLE_UNIT, duration_at, has_cell, text_at,
     text_column,
 };
-use crate::recent::Recent;
+use crate::distinct_items::DistinctItems;
 use fd_column::Columns;
 use fd_kinds::{NoMemory, ProfileType};
 use std::alloc::Global;
@@ -76,7 +76,7 @@ fn is_type_at<C: Columns>(columns: &C, at: usize, kind: &ProfileType) -> bool
 }
 
 /// Whether the last type is that of the row at a place.
-fn is_last_at<C: Columns>(types: &Recent<ProfileType>, columns: &C, at: usize) -> bool
+fn is_last_at<C: Columns>(types: &DistinctItems<ProfileType>, columns: &C, at: usize) -> bool
     requires { at < length (C.rows columns.now) }
     ensures { Decides result (types.now.last ≡ Some (type_of (row_at (C.rows columns.now) at))) }
 {
@@ -89,7 +89,7 @@ fn is_last_at<C: Columns>(types: &Recent<ProfileType>, columns: &C, at: usize) -
 /// Adds the profile type of the row at a place.
 fn add_type_at<C: Columns>(
     alloc: Global,
-    types: &mut Recent<ProfileType>,
+    types: &mut DistinctItems<ProfileType>,
     columns: &C,
     at: usize,
 ) -> Result<(), NoMemory>
@@ -110,7 +110,7 @@ fn add_type_at<C: Columns>(
 /// Adds the profile types of the rows at the places; after a refusal those of a first part of them.
 pub fn add_types_at<C: Columns>(
     alloc: Global,
-    types: &mut Recent<ProfileType>,
+    types: &mut DistinctItems<ProfileType>,
     columns: &C,
     places: &[usize],
 ) -> Result<(), NoMemory>

@@ -1,4 +1,4 @@
-use Rattle.fd_scan.proofs.CellsRead.{same_labels}
+use Rattle.fd_scan.proofs.CellValues.{same_labels}
 use Rattle.fd_scan.proofs.cells.has_same_labels.Goals as goal
 
 pub returns : goal.returns

@@ -3,7 +3,7 @@ use Rattle.std.specs.Prelude.{Decides}
 use Rattle.fd_kinds.specs.declared.row.Numbered.{Numbered}
 use Rattle.fd_dictionary.specs.Dictionaries.{cell_in}
 use Rattle.fd_column.specs.Cells.{column_texts}
-use Rattle.fd_scan.proofs.CellsRead.{names_decided}
+use Rattle.fd_scan.proofs.CellValues.{names_decided}
 use Rattle.fd_scan.proofs.cells.has_same_name.Goals as goal
 
 pub returns-clause-decided : goal.returns-clause-decided

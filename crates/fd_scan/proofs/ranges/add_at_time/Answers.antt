@@ -2,9 +2,9 @@ use Rattle.std.proofs.Common.{rules, ◌∙◌, ap, false, Ok}
 use Rattle.std.specs.Map.{lookup}
 use Rattle.std.specs.BTreeMap.{is_at}
 use Rattle.std.specs.Ordering.{int_cmp}
-use Rattle.fd_scan.specs.Adding.{FindsSame, AddsWhereFound}
+use Rattle.fd_scan.specs.Additions.{FindsSame, AddsWhereFound}
 use Rattle.fd_scan.proofs.Outcomes.{on_err}
-use Rattle.fd_scan.proofs.Summed.{adds_new}
+use Rattle.fd_scan.proofs.SumLaws.{adds_new}
 use Rattle.std.specs.Cmp.{int_cmp_total}
 use Rattle.std.specs.FinMap.{int_cmp-IsAntisymmetric}
 use Rattle.fd_scan.proofs.ranges.add_at_time.Goals as goal

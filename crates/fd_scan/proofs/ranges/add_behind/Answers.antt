@@ -1,6 +1,6 @@
 use Rattle.std.proofs.Common.{◌++◌, [], ◌∷◌, subst}
-use Rattle.fd_scan.specs.Grouped.{AreRanges}
-use Rattle.fd_scan.specs.Places.{row_at}
+use Rattle.fd_scan.specs.Groups.{AreRanges}
+use Rattle.fd_scan.specs.RowPlaces.{row_at}
 use Rattle.fd_scan.proofs.ranges.add_behind.Goals as goal
 
 pub returns-clause-ok : goal.returns-clause-ok

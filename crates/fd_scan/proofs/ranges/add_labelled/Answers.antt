@@ -1,7 +1,7 @@
 use Rattle.std.proofs.Common.{rules, sym}
 use Rattle.std.proofs.lemmas.Result.{on_ok_weaker}
 use Rattle.fd_kinds.specs.declared.row.Row.{Row}
-use Rattle.fd_scan.specs.Places.{row_at}
+use Rattle.fd_scan.specs.RowPlaces.{row_at}
 use Rattle.fd_scan.proofs.ranges.add_labelled.Goals as goal
 
 pub returns-clause-ok : goal.returns-clause-ok

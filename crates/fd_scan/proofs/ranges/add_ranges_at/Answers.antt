@@ -1,10 +1,10 @@
 use Rattle.std.proofs.Common.{rules, ℕ, ◌<◌, List, length, ◌++◌, take, subst}
 use Rattle.std.proofs.lemmas.List.{take_all}
 use Rattle.fd_kinds.specs.declared.row.Row.{Row}
-use Rattle.fd_scan.specs.Grouped.{AreRanges}
-use Rattle.fd_scan.specs.Places.{rows_at}
+use Rattle.fd_scan.specs.Groups.{AreRanges}
+use Rattle.fd_scan.specs.RowPlaces.{rows_at}
 use Rattle.fd_scan.proofs.Outcomes.{on_err}
-use Rattle.fd_scan.proofs.RowsAt.{places_more}
+use Rattle.fd_scan.proofs.RowLists.{places_more}
 use Rattle.fd_scan.proofs.ranges.add_ranges_at.Goals as goal
 
 pub returns-in_err-add_behind-clause-err : goal.returns-in_err-add_behind-clause-err

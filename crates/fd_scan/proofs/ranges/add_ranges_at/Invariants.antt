@@ -1,9 +1,9 @@
 use Rattle.std.proofs.Common.{List, ◌++◌, take}
 use Rattle.std.specs.Prelude.{IfSome}
 use Rattle.fd_kinds.specs.declared.row.Row.{Row}
-use Rattle.fd_scan.specs.Grouped.{AreRanges}
-use Rattle.fd_scan.specs.Labelled.{IsLabelled}
-use Rattle.fd_scan.specs.Places.{rows_at}
+use Rattle.fd_scan.specs.Groups.{AreRanges}
+use Rattle.fd_scan.specs.LabelledPlaces.{IsLabelled}
+use Rattle.fd_scan.specs.RowPlaces.{rows_at}
 use Rattle.fd_scan.proofs.ranges.add_ranges_at.Given as goal
 
 abbrev pub invariant-loop-at : goal.invariant-loop-at

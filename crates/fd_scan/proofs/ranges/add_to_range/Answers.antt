@@ -6,9 +6,9 @@ use Rattle.std.proofs.lemmas.Result.{on_ok_weaker, on_err_weaker}
 use Rattle.fd_kinds.specs.declared.labels.Labels.{Labels}
 use Rattle.fd_kinds.specs.declared.row.Row.{Row}
 use Rattle.fd_kinds.specs.RowOrder.{labels_cmp}
-use Rattle.fd_scan.specs.Adding.{Adds}
-use Rattle.fd_scan.specs.Grouped.{ArePoints}
-use Rattle.fd_scan.proofs.Ranged.{ranges_more, ranges_new, ranges_kept}
+use Rattle.fd_scan.specs.Additions.{Adds}
+use Rattle.fd_scan.specs.Groups.{ArePoints}
+use Rattle.fd_scan.proofs.RangeLaws.{ranges_more, ranges_new, ranges_kept}
 use Rattle.fd_scan.proofs.ranges.add_to_range.Goals as goal
 
 pub returns-in-Some-clause-ok : goal.returns-in-Some-clause-ok

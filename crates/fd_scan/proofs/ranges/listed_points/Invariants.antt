@@ -1,5 +1,5 @@
 use Rattle.std.proofs.Common.{◌≡◌, ◌++◌, map}
-use Rattle.fd_scan.proofs.Summed.{to_point}
+use Rattle.fd_scan.proofs.SumLaws.{to_point}
 use Rattle.fd_scan.proofs.ranges.listed_points.Given as goal
 
 abbrev pub invariant-loop-timestamp : goal.invariant-loop-timestamp

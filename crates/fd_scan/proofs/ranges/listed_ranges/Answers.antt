@@ -1,5 +1,5 @@
 use Rattle.std.proofs.Common.{rules, ◌≡◌, ◌∙◌, map}
-use Rattle.fd_scan.proofs.Ranged.{to_range, ranges_from_map}
+use Rattle.fd_scan.proofs.RangeLaws.{to_range, ranges_from_map}
 use Rattle.fd_scan.proofs.ranges.listed_ranges.Goals as goal
 
 pub returns : goal.returns

@@ -1,5 +1,5 @@
 use Rattle.std.proofs.Common.{◌≡◌, ◌++◌, map}
-use Rattle.fd_scan.proofs.Ranged.{to_range}
+use Rattle.fd_scan.proofs.RangeLaws.{to_range}
 use Rattle.fd_scan.proofs.ranges.listed_ranges.Given as goal
 
 abbrev pub invariant-loop-labels : goal.invariant-loop-labels

@@ -2,10 +2,10 @@ use Rattle.std.proofs.Common.{rules, []}
 use Rattle.std.specs.Ordering.{int_cmp}
 use Rattle.std.specs.Cmp.{int_cmp_total}
 use Rattle.std.specs.FinMap.{int_cmp-IsAntisymmetric}
-use Rattle.fd_scan.specs.Adding.{Adds}
-use Rattle.fd_scan.specs.Grouped.{IsSum}
-use Rattle.fd_scan.proofs.Grouped.{groups_none}
-use Rattle.fd_scan.proofs.Summed.{points_with}
+use Rattle.fd_scan.specs.Additions.{Adds}
+use Rattle.fd_scan.specs.Groups.{IsSum}
+use Rattle.fd_scan.proofs.GroupLaws.{groups_none}
+use Rattle.fd_scan.proofs.SumLaws.{points_with}
 use Rattle.fd_scan.proofs.ranges.one_point.Goals as goal
 
 pub returns : goal.returns

@@ -1,9 +1,9 @@
 use Rattle.std.proofs.Common.{rules, ◌≡◌, ◌++◌, [], ◌∷◌, map, refl, Some, subst}
 use Rattle.fd_kinds.specs.declared.row.Row.{Row}
 use Rattle.fd_kinds.specs.Meaning.{series_of, series_cmp}
-use Rattle.fd_scan.specs.Places.{row_at}
-use Rattle.fd_scan.specs.Recents.{AreDistinct, last_series}
-use Rattle.fd_scan.proofs.Recently.{distinct_last, rows_more, series_cmp_total}
+use Rattle.fd_scan.specs.RowPlaces.{row_at}
+use Rattle.fd_scan.specs.DistinctItems.{AreDistinct, last_series}
+use Rattle.fd_scan.proofs.DistinctItemLaws.{distinct_last, rows_more, series_cmp_total}
 use Rattle.fd_scan.proofs.series.add_behind.Goals as goal
 
 pub returns-then-is_last_series-clause-ok : goal.returns-then-is_last_series-clause-ok

@@ -1,5 +1,5 @@
 use Rattle.std.proofs.Common.{rules, ◌≡◌, ◌∙◌, map}
-use Rattle.fd_scan.proofs.Slotted.{to_sum, sums_from_map}
+use Rattle.fd_scan.proofs.SlotLaws.{to_sum, sums_from_map}
 use Rattle.fd_scan.proofs.sums.listed.Goals as goal
 
 pub returns : goal.returns

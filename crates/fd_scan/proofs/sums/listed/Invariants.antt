@@ -1,5 +1,5 @@
 use Rattle.std.proofs.Common.{◌≡◌, ◌++◌, map}
-use Rattle.fd_scan.proofs.Slotted.{to_sum}
+use Rattle.fd_scan.proofs.SlotLaws.{to_sum}
 use Rattle.fd_scan.proofs.sums.listed.Given as goal
 
 abbrev pub invariant-loop-stack : goal.invariant-loop-stack

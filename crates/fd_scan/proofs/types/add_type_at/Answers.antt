@@ -1,8 +1,8 @@
 use Rattle.std.proofs.Common.{rules, ◌≡◌, map, refl, Some}
 use Rattle.std.proofs.lemmas.Result.{on_ok_weaker, on_err_weaker}
 use Rattle.fd_kinds.specs.Meaning.{type_of, type_cmp}
-use Rattle.fd_scan.specs.Places.{row_at}
-use Rattle.fd_scan.proofs.Recently.{distinct_last, rows_more, type_cmp_total}
+use Rattle.fd_scan.specs.RowPlaces.{row_at}
+use Rattle.fd_scan.proofs.DistinctItemLaws.{distinct_last, rows_more, type_cmp_total}
 use Rattle.fd_scan.proofs.types.add_type_at.Goals as goal
 
 pub returns-then-is_last_at-clause-ok : goal.returns-then-is_last_at-clause-ok

@@ -1,6 +1,6 @@
 use Rattle.std.proofs.Common.{rules, ◌≡◌, pos, ◌+ℤ◌, get_or}
 use Rattle.std.proofs.Math.ListN.{set}
-use Rattle.fd_scan.proofs.Slotted.{known_more}
+use Rattle.fd_scan.proofs.SlotLaws.{known_more}
 use Rattle.fd_scan.proofs.sums.Sums.add_known.Goals as goal
 
 pub returns-clause-ok : goal.returns-clause-ok

@@ -1,8 +1,8 @@
 use Rattle.std.proofs.Common.{rules, ◌≡◌, List, length}
 use Rattle.fd_kinds.specs.declared.row.Row.{Row}
-use Rattle.fd_scan.specs.Grouped.{AreSums}
+use Rattle.fd_scan.specs.Groups.{AreSums}
 use Rattle.fd_scan.proofs.Outcomes.{on_err}
-use Rattle.fd_scan.proofs.Slotted.{new_kept, new_more, sums_left}
+use Rattle.fd_scan.proofs.SlotLaws.{new_kept, new_more, sums_left}
 use Rattle.fd_scan.proofs.sums.Sums.add_new.Goals as goal
 
 pub returns-in_err-insert-clause-err : goal.returns-in_err-insert-clause-err

@@ -1,4 +1,4 @@
-use Rattle.fd_scan.proofs.Slotted.{no_sums}
+use Rattle.fd_scan.proofs.SlotLaws.{no_sums}
 use Rattle.fd_scan.proofs.sums.Sums.new.Goals as goal
 
 pub returns : goal.returns

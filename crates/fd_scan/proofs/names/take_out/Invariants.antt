@@ -1,9 +1,0 @@
-use Rattle.std.proofs.Common.{◌≡◌, length}
-use Rattle.fd_scan.specs.Undone.{undone}
-use Rattle.fd_scan.proofs.names.take_out.Given as goal
-
-abbrev pub invariant-loop-text : goal.invariant-loop-text
-invariant-loop-text l = undone l.texts.keys l.noted ≡ undone l.initial.texts.keys l.fn.noted
-
-abbrev pub decreases-loop-text : goal.decreases-loop-text
-decreases-loop-text l = length l.noted
