@@ -2,28 +2,10 @@ ghost use Rattle.std.specs.Prelude.{◌≡◌, ◌<◌, true, length, IfOk, Deci
 ghost use Rattle.fd_column.specs.Cells.{column_texts, is_text_column};
 ghost use Rattle.fd_scan.specs.RowPlaces.{row_at, text_of, has_text};
 
+use fd_column::places::{DURATION, NAME, TIMESTAMP, VALUE};
 use fd_column::{Columns, Dictionary, text_of};
 use fd_kinds::{Labels, NoMemory, Stack, Text};
 use std::alloc::Global;
-
-/// The places of the columns that each table has.
-pub const NAME: usize = 1;
-
-pub const SAMPLE_TYPE: usize = 2;
-
-pub const SAMPLE_UNIT: usize = 3;
-
-pub const PERIOD_TYPE: usize = 4;
-
-pub const PERIOD_UNIT: usize = 5;
-
-pub const STACK: usize = 7;
-
-const TIMESTAMP: usize = 6;
-
-const DURATION: usize = 9;
-
-const VALUE: usize = 10;
 
 /// The cells of a column of texts.
 pub fn text_column<C: Columns>(columns: &C, column: usize) -> &Dictionary

@@ -5,8 +5,9 @@ ghost use Rattle.fd_kinds.specs.Meaning.{agrees, is_match};
 ghost use Rattle.fd_column.specs.Dictionaries.{index_in};
 ghost use Rattle.fd_scan.specs.RowPlaces.{row_at, has_text, is_entry};
 
-use crate::cells::{NAME, text_column};
+use crate::cells::text_column;
 use crate::lookup::{entry_of, is_entry};
+use fd_column::places::NAME;
 use fd_column::{Columns, Dictionary};
 use fd_kinds::{MatchOp, Matcher, Matchers};
 

@@ -4,12 +4,10 @@ ghost use Rattle.fd_column.specs.Cells.{column_texts, is_text_column};
 ghost use Rattle.fd_scan.specs.Aggregates.{counts, is_filtered};
 ghost use Rattle.fd_scan.specs.RowPlaces.{row_at, places_of, has_text, has_texts, has_delta, is_in_time};
 
-use crate::cells::{
-    NAME, PERIOD_TYPE, PERIOD_UNIT, SAMPLE_TYPE, SAMPLE_UNIT, duration_at, text_column,
-    timestamp_at,
-};
+use crate::cells::{duration_at, text_column, timestamp_at};
 use crate::matchers::{keep_all_matching, keep_texts};
 use fd_column::Columns;
+use fd_column::places::{NAME, PERIOD_TYPE, PERIOD_UNIT, SAMPLE_TYPE, SAMPLE_UNIT};
 use fd_kinds::{MatchOp, NoMemory, ProfileType, Query, Selector, Text, Window};
 use std::alloc::Global;
 

@@ -4,9 +4,10 @@ ghost use Rattle.fd_scan.specs.Groups.{AreSums};
 ghost use Rattle.fd_scan.specs.StackSlots.{KnowsSlots, known_slot, noted};
 ghost use Rattle.fd_scan.specs.RowPlaces.{row_at, rows_at};
 
-use crate::cells::{STACK, stack_at, text_column, value_at};
+use crate::cells::{stack_at, text_column, value_at};
 use crate::sums::Sums;
 use fd_column::Columns;
+use fd_column::places::STACK;
 use fd_kinds::NoMemory;
 use std::alloc::Global;
 

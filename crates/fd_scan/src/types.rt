@@ -6,12 +6,10 @@ ghost use Rattle.fd_column.specs.Cells.{column_texts};
 ghost use Rattle.fd_scan.specs.RowPlaces.{row_at, rows_at, has_text, has_texts};
 ghost use Rattle.fd_scan.specs.DistinctItems.{AreDistinct};
 
-use crate::cells::{
-    NAME, PERIOD_TYPE, PERIOD_UNIT, SAMPLE_TYPE, SAMPLE_UNIT, duration_at, has_cell, text_at,
-    text_column,
-};
+use crate::cells::{duration_at, has_cell, text_at, text_column};
 use crate::distinct_items::DistinctItems;
 use fd_column::Columns;
+use fd_column::places::{NAME, PERIOD_TYPE, PERIOD_UNIT, SAMPLE_TYPE, SAMPLE_UNIT};
 use fd_kinds::{NoMemory, ProfileType};
 use std::alloc::Global;
 
