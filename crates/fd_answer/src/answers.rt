@@ -11,7 +11,8 @@ use fd_shelf::Picked;
 /// What the query means over all rows of the parts. Their columns are scanned one part after the
 /// other, and no row is copied.
 pub fn answer(query: &Query, parts: &Picked<Part>) -> Result<Answer, NoMemory>
-    ensures { IfOk result (λ answer. answer ≡ meaning query.now (flat_map (λ i. rows_of (part_meaning i.part).rows) parts.now)) }
+    ensures { IfOk result (λ answer.
+        answer ≡ meaning query.now (flat_map (λ i. rows_of (part_meaning i.part).rows) parts.now)) }
 {
     let mut gathered = Gathered::new(parts.allocator(), query)?;
     for picked in parts.as_slice() {

@@ -6,7 +6,7 @@ use Rattle.std.specs.Ordering.{is_eq}
 use Rattle.std.specs.Cmp.Lexicographic.{texts_ties}
 use Rattle.std.proofs.lemmas.Slice.Eq.{bytes_eq-Decides}
 use Rattle.fd_lists.specs.Texts.{text_cmp}
-use Rattle.fd_column.specs.Dictionaries.{Cells, pick_in, with_cell, entries_of, entry_at, index_in}
+use Rattle.fd_dictionary.specs.Dictionaries.{Cells, pick_in, with_cell, entries_of, entry_at, index_in}
 use Rattle.fd_scan.specs.RowPlaces.{has_text, is_entry}
 
 same_bytes : (a b : List ℕ) → bytes_eq a b ≡ true → a ≡ b

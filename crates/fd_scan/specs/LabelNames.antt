@@ -3,7 +3,7 @@ use Rattle.std.specs.Prelude.{ℕ, Bool, is_some, if◌then◌else◌, List, [],
 use Rattle.std.specs.List.{list_any}
 use Rattle.fd_kinds.specs.declared.row.Numbered.{Numbered}
 use Rattle.fd_kinds.specs.LabelMaps.{value_of}
-use Rattle.fd_column.specs.Dictionaries.{Cells, cell_in}
+use Rattle.fd_dictionary.specs.Dictionaries.{Cells, cell_in}
 use Rattle.fd_scan.specs.RowPlaces.{row_at}
 
 -- the label of which a column has the values, by the column's name; none where the column is of another kind

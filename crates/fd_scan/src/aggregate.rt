@@ -1,4 +1,5 @@
-ghost use Rattle.std.specs.Prelude.{◌≡◌, ◌<◌, length, All, ℕ, List, [], ◌++◌, take, OnOk, OnErr, IfOk};
+ghost use Rattle.std.specs.Prelude.{◌≡◌, ◌<◌, length, All, ℕ, List, [], ◌++◌, take};
+ghost use Rattle.std.specs.Prelude.{OnOk, OnErr, IfOk};
 ghost use Rattle.fd_kinds.specs.declared.row.Row.{Row};
 ghost use Rattle.fd_kinds.specs.declared.query.Query.{Query};
 ghost use Rattle.fd_kinds.specs.Meaning.{meaning};
@@ -32,8 +33,9 @@ enum Groups {
     Merge(Sums),
 }
 
-/// What was gathered of rows for one query so far. The columns of one part after the other are scanned
-/// into it; what it says of them is for the query that it was made for.
+/// What was gathered of rows for one query so far. The columns of one part after the other are
+/// scanned into it. It is the meaning of the one query that it was made for: never scan for another
+/// into it.
 #[derive(Drop)]
 pub struct Gathered {
     alloc: Global,
@@ -57,7 +59,8 @@ impl Groups {
         })
     }
 
-    /// Adds the rows at the places, which count for the query; after a refusal a first part of them.
+    /// Adds the rows at the places, which count for the query; after a refusal a first part of
+    /// them.
     fn add_places<C: Columns>(
         &mut self,
         alloc: Global,
@@ -70,7 +73,8 @@ impl Groups {
             → AreGroups query (rows ++ rows_at (C.rows columns.now) places.now) self.new) }
         ensures err { OnErr result (
             (k : ℕ) × ((query : Query) → (rows : List Row) → AreGroups query rows self.old
-            → AreGroups query (rows ++ rows_at (C.rows columns.now) (take k places.now)) self.new)) }
+            → AreGroups query
+            (rows ++ rows_at (C.rows columns.now) (take k places.now)) self.new)) }
     {
         match self {
             Groups::Types(types) => add_types_at(alloc, types, columns, places),
@@ -84,7 +88,8 @@ impl Groups {
 
     fn answer(self, alloc: Global) -> Result<Answer, NoMemory>
         ensures { IfOk result (λ answer.
-            (query : Query) → (rows : List Row) → AreGroups query (counted query rows) self → answer ≡ meaning query rows) }
+            (query : Query) → (rows : List Row) → AreGroups query (counted query rows) self
+            → answer ≡ meaning query rows) }
     {
         Ok(match self {
             Groups::Types(types) => Answer::Types(listed(alloc, types.into_set())?),
@@ -117,7 +122,8 @@ impl Gathered {
     /// What the query means over the rows that were gathered.
     pub fn finish(self) -> Result<Answer, NoMemory>
         ensures { IfOk result (λ answer.
-            (query : Query) → (rows : List Row) → AreGathered query rows self → answer ≡ meaning query rows) }
+            (query : Query) → (rows : List Row) → AreGathered query rows self
+            → answer ≡ meaning query rows) }
     {
         let Gathered { alloc, groups } = self;
         groups.answer(alloc)

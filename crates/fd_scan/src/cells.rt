@@ -73,7 +73,8 @@ pub fn labels_at<C: Columns>(columns: &C, at: usize) -> Result<Labels, NoMemory>
 pub fn has_same_labels<C: Columns>(columns: &C, a: usize, b: usize) -> bool
     requires first { a < length (C.rows columns.now) }
     requires second { b < length (C.rows columns.now) }
-    ensures { Decides result ((row_at (C.rows columns.now) a).labels ≡ (row_at (C.rows columns.now) b).labels) }
+    ensures { Decides result (
+        (row_at (C.rows columns.now) a).labels ≡ (row_at (C.rows columns.now) b).labels) }
 {
     columns.same_labels(a, b)
 }
@@ -81,8 +82,11 @@ pub fn has_same_labels<C: Columns>(columns: &C, a: usize, b: usize) -> bool
 /// Whether two rows have the same name.
 #[tactic(auto, using(crate::proofs::CellValues::same_name))]
 pub fn has_same_name<C: Columns>(columns: &C, a: usize, b: usize) -> bool
-    ensures same { result ≡ true → (row_at (C.rows columns.now) a).name ≡ (row_at (C.rows columns.now) b).name }
-    ensures decided { a < length (C.rows columns.now) → b < length (C.rows columns.now) → Decides result ((row_at (C.rows columns.now) a).name ≡ (row_at (C.rows columns.now) b).name) }
+    ensures same { result ≡ true
+        → (row_at (C.rows columns.now) a).name ≡ (row_at (C.rows columns.now) b).name }
+    ensures decided { a < length (C.rows columns.now) → b < length (C.rows columns.now)
+        → Decides result (
+        (row_at (C.rows columns.now) a).name ≡ (row_at (C.rows columns.now) b).name) }
 {
     text_column(columns, NAME).is_same(a, b)
 }

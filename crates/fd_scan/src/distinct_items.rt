@@ -6,8 +6,8 @@ use fd_kinds::NoMemory;
 use std::alloc::Global;
 use std::collections::BTreeSet;
 
-/// Distinct items, and a copy of the one that was added last: of rows that stand together with equal
-/// items only the first has its item copied.
+/// Distinct items, and a copy of the one that was added last: of rows that stand together with
+/// equal items only the first has its item copied.
 #[derive(Drop)]
 pub struct DistinctItems<T: Ord> {
     pub found: BTreeSet<T>,

@@ -4,8 +4,9 @@ ghost use Rattle.fd_kinds.specs.declared.row.Row.{Row};
 ghost use Rattle.fd_kinds.specs.Meaning.{distinct, label_names};
 ghost use Rattle.fd_lists.specs.Texts.{text_cmp};
 ghost use Rattle.fd_column.specs.Cells.{column_names};
-ghost use Rattle.fd_column.specs.Dictionaries.{cell_in};
-ghost use Rattle.fd_scan.specs.LabelNames.{any_cell, column_labels, label_at, label_of, where_found, where_there};
+ghost use Rattle.fd_dictionary.specs.Dictionaries.{cell_in};
+ghost use Rattle.fd_scan.specs.LabelNames.{any_cell, column_labels, label_at, label_of};
+ghost use Rattle.fd_scan.specs.LabelNames.{where_found, where_there};
 ghost use Rattle.fd_scan.specs.RowPlaces.{rows_at};
 ghost use Rattle.fd_scan.specs.Removals.{undone};
 
@@ -24,8 +25,8 @@ fn take_out(texts: &mut BTreeSet<Text>, mut noted: Texts)
     }
 }
 
-/// Adds a copy of the text, where the set does not have it, and notes that. After a refusal the text
-/// may be noted alone.
+/// Adds a copy of the text, where the set does not have it, and notes that. After a refusal the
+/// text may be noted alone.
 fn add_noted(texts: &mut BTreeSet<Text>, noted: &mut Texts, text: &Text) -> Result<(), NoMemory>
     ensures ok { OnOk result (
         (items : List (List ℕ)) → texts.old.keys ≡ distinct text_cmp items
@@ -107,7 +108,8 @@ fn add_column_label<C: Columns>(
 ) -> Result<(), NoMemory>
     ensures ok { OnOk result (
         (items : List (List ℕ)) → names.old.keys ≡ distinct text_cmp items
-        → names.new.keys ≡ distinct text_cmp (items ++ where_found (C.rows columns.now) places.now (label_at (column_names (C.rows columns.now)) column))) }
+        → names.new.keys ≡ distinct text_cmp (items ++ where_found (C.rows columns.now) places.now
+        (label_at (column_names (C.rows columns.now)) column))) }
     ensures undone { undone names.new.keys noted.new ≡ undone names.old.keys noted.old }
 {
     match label_at(columns, column) {
@@ -128,7 +130,8 @@ fn add_column_labels<C: Columns>(
 ) -> Result<(), NoMemory>
     ensures ok { OnOk result (
         (items : List (List ℕ)) → names.old.keys ≡ distinct text_cmp items
-        → names.new.keys ≡ distinct text_cmp (items ++ column_labels (C.rows columns.now) places.now (column_names (C.rows columns.now)))) }
+        → names.new.keys ≡ distinct text_cmp (items ++ column_labels (C.rows columns.now) places.now
+        (column_names (C.rows columns.now)))) }
     ensures undone { undone names.new.keys noted.new ≡ undone names.old.keys noted.old }
 {
     for column in 0..columns.names().len() {

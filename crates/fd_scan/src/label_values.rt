@@ -29,10 +29,12 @@ impl LabelValues {
         ensures name { self.new.name ≡ self.old.name }
         ensures ok { OnOk result (
             (rows : List Row) → self.old.found.keys ≡ label_values self.old.name rows
-            → self.new.found.keys ≡ label_values self.old.name (rows ++ rows_at (C.rows columns.now) places.now)) }
+            → self.new.found.keys
+            ≡ label_values self.old.name (rows ++ rows_at (C.rows columns.now) places.now)) }
         ensures err { OnErr result (
             (k : ℕ) × ((rows : List Row) → self.old.found.keys ≡ label_values self.old.name rows
-            → self.new.found.keys ≡ label_values self.old.name (rows ++ rows_at (C.rows columns.now) (take k places.now)))) }
+            → self.new.found.keys ≡ label_values self.old.name
+            (rows ++ rows_at (C.rows columns.now) (take k places.now)))) }
     {
         match columns.label_column(&self.name) {
             Some(column) => {

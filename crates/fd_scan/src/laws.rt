@@ -7,5 +7,6 @@ ghost use Rattle.fd_kinds.specs.Meaning.{distinct};
 pub fn distinct_laws<T: Ord>()
     ensures rising { (items : List T) → IsStrictlySortedBy T.cmp (distinct T.cmp items) }
     ensures members { IsAntisymmetric T.cmp
-        → (items : List T) → (item : T) → Contains (distinct T.cmp items) item ↔ Contains items item }
+        → (items : List T) → (item : T)
+        → Contains (distinct T.cmp items) item ↔ Contains items item }
 {}

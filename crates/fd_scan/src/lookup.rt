@@ -1,5 +1,5 @@
 ghost use Rattle.std.specs.Prelude.{◌≡◌, ◌≢◌, true, false, Some, slice_get};
-ghost use Rattle.fd_column.specs.Dictionaries.{entries_of, entry_at, index_in};
+ghost use Rattle.fd_dictionary.specs.Dictionaries.{entries_of, entry_at, index_in};
 ghost use Rattle.fd_scan.specs.RowPlaces.{is_entry};
 
 use fd_column::Dictionary;

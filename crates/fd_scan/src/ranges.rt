@@ -1,4 +1,5 @@
-ghost use Rattle.std.specs.Prelude.{◌≡◌, ◌<◌, ℕ, length, take, List, [], ◌∷◌, ◌++◌, map, All, OnOk, OnErr, IfOk, IfSome};
+ghost use Rattle.std.specs.Prelude.{◌≡◌, ◌<◌, ℕ, length, take, List, [], ◌∷◌, ◌++◌, map, All};
+ghost use Rattle.std.specs.Prelude.{OnOk, OnErr, IfOk, IfSome};
 ghost use Rattle.fd_kinds.specs.declared.row.Row.{Row};
 ghost use Rattle.fd_kinds.specs.Meaning.{ranges_of};
 ghost use Rattle.std.specs.Ordering.{int_cmp};
@@ -47,9 +48,11 @@ pub fn add_to_range(
     value: i64,
 ) -> Result<(), NoMemory>
     ensures ok { OnOk result (
-        (rows : List Row) → (row : Row) → row.labels ≡ labels.now → row.timestamp ≡ timestamp → row.value ≡ value
+        (rows : List Row) → (row : Row)
+        → row.labels ≡ labels.now → row.timestamp ≡ timestamp → row.value ≡ value
         → AreRanges ranges.old rows → AreRanges ranges.new (rows ++ row ∷ [])) }
-    ensures err { OnErr result ((rows : List Row) → AreRanges ranges.old rows → AreRanges ranges.new rows) }
+    ensures err { OnErr result (
+        (rows : List Row) → AreRanges ranges.old rows → AreRanges ranges.new rows) }
 {
     match ranges.get_mut(labels) {
         Some(points) => add_at_time(points, timestamp, value),
@@ -102,7 +105,8 @@ fn add_labelled<C: Columns>(
     ensures ok { OnOk result (
         (rows : List Row) → AreRanges ranges.old rows
         → AreRanges ranges.new (rows ++ row_at (C.rows columns.now) place.now.at ∷ [])) }
-    ensures err { OnErr result ((rows : List Row) → AreRanges ranges.old rows → AreRanges ranges.new rows) }
+    ensures err { OnErr result (
+        (rows : List Row) → AreRanges ranges.old rows → AreRanges ranges.new rows) }
 {
     let timestamp = timestamp_at(columns, place.at);
     let value = value_at(columns, place.at);
@@ -123,7 +127,8 @@ fn add_behind<C: Columns>(
     ensures ok { OnOk result (
         (rows : List Row) → AreRanges ranges.old rows
         → AreRanges ranges.new (rows ++ row_at (C.rows columns.now) at ∷ [])) }
-    ensures err { OnErr result ((rows : List Row) → AreRanges ranges.old rows → AreRanges ranges.new rows) }
+    ensures err { OnErr result (
+        (rows : List Row) → AreRanges ranges.old rows → AreRanges ranges.new rows) }
 {
     let place = labelled_behind(columns, last, at)?;
     add_labelled(alloc, ranges, columns, &place)?;
@@ -155,7 +160,8 @@ pub fn add_ranges_at<C: Columns>(
 
 /// The points by rising time.
 fn listed_points(alloc: Global, points: BTreeMap<i64, i128>) -> Result<Points, NoMemory>
-    ensures { IfOk result (λ list. list ≡ map (λ e. record { timestamp = e.0; value = e.1 }) points.entries) }
+    ensures { IfOk result (λ list.
+        list ≡ map (λ e. record { timestamp = e.0; value = e.1 }) points.entries) }
 {
     let mut list = Items::new(alloc);
     for (timestamp, value) in points {
@@ -166,7 +172,8 @@ fn listed_points(alloc: Global, points: BTreeMap<i64, i128>) -> Result<Points, N
 
 /// The ranges in the order of their labels.
 pub fn listed_ranges(alloc: Global, ranges: Ranges) -> Result<RangeSeries, NoMemory>
-    ensures { IfOk result (λ list. (rows : List Row) → AreRanges ranges rows → list ≡ ranges_of rows) }
+    ensures { IfOk result (λ list.
+        (rows : List Row) → AreRanges ranges rows → list ≡ ranges_of rows) }
 {
     let mut list = Items::new(alloc);
     for (labels, points) in ranges {

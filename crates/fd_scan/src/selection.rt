@@ -2,7 +2,8 @@ ghost use Rattle.std.specs.Prelude.{◌≡◌, ◌<◌, ◌&&◌, true, length, 
 ghost use Rattle.fd_kinds.specs.Meaning.{is_within, is_selected};
 ghost use Rattle.fd_column.specs.Cells.{column_texts, is_text_column};
 ghost use Rattle.fd_scan.specs.Aggregates.{counts, is_filtered};
-ghost use Rattle.fd_scan.specs.RowPlaces.{row_at, places_of, has_text, has_texts, has_delta, is_in_time};
+ghost use Rattle.fd_scan.specs.RowPlaces.{row_at, places_of, has_text, has_texts};
+ghost use Rattle.fd_scan.specs.RowPlaces.{has_delta, is_in_time};
 
 use crate::cells::{duration_at, text_column, timestamp_at};
 use crate::matchers::{keep_all_matching, keep_texts};
@@ -14,7 +15,8 @@ use std::alloc::Global;
 /// Keeps the places of the rows that have the text in the column.
 fn keep_equal<C: Columns>(columns: &C, column: usize, text: &Text, places: &mut Vec<usize>)
     requires { is_text_column (C.rows columns.now) column ≡ true }
-    ensures { places.new.items ≡ filter (has_text (column_texts (C.rows columns.now) column) text.now) places.old.items }
+    ensures { places.new.items
+        ≡ filter (has_text (column_texts (C.rows columns.now) column) text.now) places.old.items }
 {
     keep_texts(
         text_column(columns, column),
@@ -26,7 +28,8 @@ fn keep_equal<C: Columns>(columns: &C, column: usize, text: &Text, places: &mut 
 
 /// Keeps the places of the rows that have the five texts of the type.
 fn keep_type<C: Columns>(columns: &C, kind: &ProfileType, places: &mut Vec<usize>)
-    ensures { places.new.items ≡ filter (λ at. has_texts kind.now (row_at (C.rows columns.now) at)) places.old.items }
+    ensures { places.new.items
+        ≡ filter (λ at. has_texts kind.now (row_at (C.rows columns.now) at)) places.old.items }
 {
     keep_equal(columns, NAME, &kind.name, places);
     keep_equal(columns, SAMPLE_TYPE, &kind.sample_type, places);
@@ -63,7 +66,9 @@ fn places_in_time<C: Columns>(
     window: &Window,
     delta: Option<bool>,
 ) -> Result<Vec<usize>, NoMemory>
-    ensures { IfOk result (λ places. places.items ≡ filter (λ at. is_in_time window.now delta (row_at (C.rows columns.now) at)) (places_of (C.rows columns.now))) }
+    ensures { IfOk result (λ places. places.items
+        ≡ filter (λ at. is_in_time window.now delta (row_at (C.rows columns.now) at))
+        (places_of (C.rows columns.now))) }
 {
     let mut places = Vec::new(alloc);
     for at in 0..columns.len() {
@@ -81,7 +86,10 @@ fn selected_places<C: Columns>(
     selector: &Selector,
     window: &Window,
 ) -> Result<Vec<usize>, NoMemory>
-    ensures { IfOk result (λ places. places.items ≡ filter (λ at. is_within window.now (row_at (C.rows columns.now) at) && is_selected selector.now (row_at (C.rows columns.now) at)) (places_of (C.rows columns.now))) }
+    ensures { IfOk result (λ places. places.items
+        ≡ filter (λ at. is_within window.now (row_at (C.rows columns.now) at)
+        && is_selected selector.now (row_at (C.rows columns.now) at))
+        (places_of (C.rows columns.now))) }
 {
     let mut places = places_in_time(alloc, columns, window, Some(selector.kind.delta))?;
     keep_type(columns, &selector.kind, &mut places);
@@ -89,13 +97,16 @@ fn selected_places<C: Columns>(
     Ok(places)
 }
 
+/// The places of the rows that the window keeps, and the wanted selector where there is one.
 fn filtered_places<C: Columns>(
     alloc: Global,
     columns: &C,
     wanted: &Option<Selector>,
     window: &Window,
 ) -> Result<Vec<usize>, NoMemory>
-    ensures { IfOk result (λ places. places.items ≡ filter (λ at. is_filtered wanted.now window.now (row_at (C.rows columns.now) at)) (places_of (C.rows columns.now))) }
+    ensures { IfOk result (λ places. places.items
+        ≡ filter (λ at. is_filtered wanted.now window.now (row_at (C.rows columns.now) at))
+        (places_of (C.rows columns.now))) }
 {
     match wanted {
         None => places_in_time(alloc, columns, window, None),
@@ -109,7 +120,9 @@ pub fn counted_places<C: Columns>(
     columns: &C,
     query: &Query,
 ) -> Result<Vec<usize>, NoMemory>
-    ensures { IfOk result (λ places. places.items ≡ filter (λ at. counts query.now (row_at (C.rows columns.now) at)) (places_of (C.rows columns.now))) }
+    ensures { IfOk result (λ places. places.items
+        ≡ filter (λ at. counts query.now (row_at (C.rows columns.now) at))
+        (places_of (C.rows columns.now))) }
 {
     match query {
         Query::Types { window } => places_in_time(alloc, columns, window, None),

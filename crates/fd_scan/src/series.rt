@@ -1,4 +1,5 @@
-ghost use Rattle.std.specs.Prelude.{◌≡◌, ◌<◌, ℕ, length, take, List, [], ◌∷◌, ◌++◌, map, All, OnOk, OnErr, IfOk, IfSome, Decides, Some, None};
+ghost use Rattle.std.specs.Prelude.{◌≡◌, ◌<◌, ℕ, length, take, List, [], ◌∷◌, ◌++◌, map, All};
+ghost use Rattle.std.specs.Prelude.{OnOk, OnErr, IfOk, IfSome, Decides, Some, None};
 ghost use Rattle.fd_kinds.specs.declared.row.Row.{Row};
 ghost use Rattle.fd_kinds.specs.Meaning.{series_of, series_cmp};
 ghost use Rattle.fd_scan.specs.RowPlaces.{row_at, rows_at};
@@ -25,7 +26,8 @@ fn series_at<C: Columns>(alloc: Global, columns: &C, at: usize) -> Result<Series
 fn is_same_series<C: Columns>(columns: &C, a: usize, b: usize) -> bool
     requires first { a < length (C.rows columns.now) }
     requires second { b < length (C.rows columns.now) }
-    ensures { Decides result (series_of (row_at (C.rows columns.now) a) ≡ series_of (row_at (C.rows columns.now) b)) }
+    ensures { Decides result (
+        series_of (row_at (C.rows columns.now) a) ≡ series_of (row_at (C.rows columns.now) b)) }
 {
     has_same_name(columns, a, b) && has_same_labels(columns, a, b)
 }
@@ -34,7 +36,8 @@ fn is_same_series<C: Columns>(columns: &C, a: usize, b: usize) -> bool
 fn is_last_series<C: Columns>(columns: &C, last: Option<usize>, at: usize) -> bool
     requires last { IfSome last (λ place. place < length (C.rows columns.now)) }
     requires at { at < length (C.rows columns.now) }
-    ensures { Decides result (last_series (C.rows columns.now) last ≡ last_series (C.rows columns.now) (Some at)) }
+    ensures { Decides result (
+        last_series (C.rows columns.now) last ≡ last_series (C.rows columns.now) (Some at)) }
 {
     match last {
         Some(last) => is_same_series(columns, last, at),
@@ -53,8 +56,11 @@ fn add_behind<C: Columns>(
     requires last { IfSome last (λ place. place < length (C.rows columns.now)) }
     requires at { at < length (C.rows columns.now) }
     ensures ok { OnOk result (
-        (rows : List Row) → AreDistinct series_cmp found.old.keys (last_series (C.rows columns.now) last) (map series_of rows)
-        → AreDistinct series_cmp found.new.keys (last_series (C.rows columns.now) (Some at)) (map series_of (rows ++ row_at (C.rows columns.now) at ∷ []))) }
+        (rows : List Row)
+        → AreDistinct series_cmp found.old.keys (last_series (C.rows columns.now) last)
+        (map series_of rows)
+        → AreDistinct series_cmp found.new.keys (last_series (C.rows columns.now) (Some at))
+        (map series_of (rows ++ row_at (C.rows columns.now) at ∷ []))) }
     ensures err { OnErr result (found.new.keys ≡ found.old.keys) }
 {
     if is_last_series(columns, last, at) {
@@ -75,10 +81,13 @@ pub fn add_series_at<C: Columns>(
     requires { All (λ at. at < length (C.rows columns.now)) places.now }
     ensures ok { OnOk result (
         (rows : List Row) → AreDistinct series_cmp found.old.keys None (map series_of rows)
-        → AreDistinct series_cmp found.new.keys None (map series_of (rows ++ rows_at (C.rows columns.now) places.now))) }
+        → AreDistinct series_cmp found.new.keys None
+        (map series_of (rows ++ rows_at (C.rows columns.now) places.now))) }
     ensures err { OnErr result (
-        (k : ℕ) × ((rows : List Row) → AreDistinct series_cmp found.old.keys None (map series_of rows)
-        → AreDistinct series_cmp found.new.keys None (map series_of (rows ++ rows_at (C.rows columns.now) (take k places.now))))) }
+        (k : ℕ) × ((rows : List Row)
+        → AreDistinct series_cmp found.old.keys None (map series_of rows)
+        → AreDistinct series_cmp found.new.keys None
+        (map series_of (rows ++ rows_at (C.rows columns.now) (take k places.now))))) }
 {
     let mut last = None;
     for at in places {

@@ -1,4 +1,5 @@
-ghost use Rattle.std.specs.Prelude.{◌≡◌, ◌<◌, ◌++◌, ◌∷◌, [], ℕ, List, All, length, take, None, IfOk, OnOk, OnErr, slice_index_or};
+ghost use Rattle.std.specs.Prelude.{◌≡◌, ◌<◌, ◌++◌, ◌∷◌, [], ℕ, List, All, length, take, None};
+ghost use Rattle.std.specs.Prelude.{IfOk, OnOk, OnErr, slice_index_or};
 ghost use Rattle.fd_kinds.specs.declared.row.Row.{Row};
 ghost use Rattle.fd_scan.specs.Groups.{AreSums};
 ghost use Rattle.fd_scan.specs.StackSlots.{KnowsSlots, known_slot, noted};
@@ -11,8 +12,8 @@ use fd_column::places::STACK;
 use fd_kinds::NoMemory;
 use std::alloc::Global;
 
-#[tactic(auto, using(crate::proofs::SlotTables::nothing_more))]
 /// A table of so many entries for which nothing is known.
+#[tactic(auto, using(crate::proofs::SlotTables::nothing_more))]
 fn nothing_known(alloc: Global, entries: usize) -> Result<Vec<Option<usize>>, NoMemory>
     ensures { IfOk result (λ known. (entry : ℕ) → slice_index_or known.items entry None ≡ None) }
 {
@@ -62,7 +63,8 @@ fn add_sum<C: Columns>(
     ensures known { KnowsSlots (C.rows columns.now) sums.new.slots known.new.items }
     ensures ok { OnOk result (
         (rows : List Row) → AreSums sums.old.slots sums.old.sums.items sums.old.total rows
-        → AreSums sums.new.slots sums.new.sums.items sums.new.total (rows ++ row_at (C.rows columns.now) at ∷ [])) }
+        → AreSums sums.new.slots sums.new.sums.items sums.new.total
+        (rows ++ row_at (C.rows columns.now) at ∷ [])) }
     ensures err { OnErr result (
         (rows : List Row) → AreSums sums.old.slots sums.old.sums.items sums.old.total rows
         → AreSums sums.new.slots sums.new.sums.items sums.new.total rows) }
@@ -91,10 +93,13 @@ pub fn add_sums<C: Columns>(
     requires { All (λ at. at < length (C.rows columns.now)) places.now }
     ensures ok { OnOk result (
         (rows : List Row) → AreSums sums.old.slots sums.old.sums.items sums.old.total rows
-        → AreSums sums.new.slots sums.new.sums.items sums.new.total (rows ++ rows_at (C.rows columns.now) places.now)) }
+        → AreSums sums.new.slots sums.new.sums.items sums.new.total
+        (rows ++ rows_at (C.rows columns.now) places.now)) }
     ensures err { OnErr result (
-        (k : ℕ) × ((rows : List Row) → AreSums sums.old.slots sums.old.sums.items sums.old.total rows
-        → AreSums sums.new.slots sums.new.sums.items sums.new.total (rows ++ rows_at (C.rows columns.now) (take k places.now)))) }
+        (k : ℕ) × ((rows : List Row)
+        → AreSums sums.old.slots sums.old.sums.items sums.old.total rows
+        → AreSums sums.new.slots sums.new.sums.items sums.new.total
+        (rows ++ rows_at (C.rows columns.now) (take k places.now)))) }
 {
     let mut known = nothing_known(alloc, text_column(columns, STACK).entries())?;
     for at in places {

@@ -1,11 +1,10 @@
-ghost use Rattle.std.specs.Prelude.{◌≡◌, ◌<◌, length, ℤ, ◌+ℤ◌, List, [], ◌∷◌, ◌++◌, OnOk, OnErr, IfOk, cond, Some, None, slice_set, slice_index_or, unwrap_or, true, pos};
-ghost use Rattle.std.specs.BTreeMap.{get, IsOrdered};
-ghost use Rattle.std.specs.Ordering.{is_eq};
+ghost use Rattle.std.specs.Prelude.{◌≡◌, ◌<◌, length, ◌+ℤ◌, List, [], ◌∷◌, ◌++◌, Some, None, pos};
+ghost use Rattle.std.specs.Prelude.{OnOk, OnErr, IfOk, slice_set, slice_index_or};
+ghost use Rattle.std.specs.BTreeMap.{get};
 ghost use Rattle.fd_kinds.specs.declared.row.Row.{Row};
-ghost use Rattle.fd_kinds.specs.Meaning.{stack_sums, value_sum};
+ghost use Rattle.fd_kinds.specs.Meaning.{stack_cmp, stack_sums, value_sum};
 ghost use Rattle.fd_scan.specs.Groups.{AreSums, AreStackSums, KeepsSlots};
 ghost use Rattle.fd_scan.specs.Additions.{AddsWhereFound};
-ghost use Rattle.fd_kinds.specs.Meaning.{stack_cmp};
 
 use fd_kinds::{Items, NoMemory, Share, Stack, StackSum, StackSums};
 use std::alloc::Global;
@@ -27,7 +26,8 @@ pub fn added<K: Ord>(sums: &mut BTreeMap<K, i128>, key: &K, value: i64) -> Resul
 
 /// Adds the value to the sum at a place. There is a sum at each place that a stack has.
 fn add_to_slot(sums: &mut Vec<i128>, slot: usize, value: i64) -> Result<(), NoMemory>
-    ensures ok { OnOk result (sums.new.items ≡ slice_set sums.old.items slot (slice_index_or sums.old.items slot (pos 0) +ℤ value)) }
+    ensures ok { OnOk result (sums.new.items
+        ≡ slice_set sums.old.items slot (slice_index_or sums.old.items slot (pos 0) +ℤ value)) }
     ensures err { OnErr result (sums.new.items ≡ sums.old.items) }
 {
     if slot >= sums.len() {
@@ -51,7 +51,8 @@ fn listed(
     slots: BTreeMap<Stack, usize>,
     sums: &[i128],
 ) -> Result<StackSums, NoMemory>
-    ensures { IfOk result (λ list. (rows : List Row) → AreStackSums sums.now slots rows → list ≡ stack_sums rows) }
+    ensures { IfOk result (λ list.
+        (rows : List Row) → AreStackSums sums.now slots rows → list ≡ stack_sums rows) }
 {
     let mut list = Items::new(alloc);
     for (stack, slot) in slots {
@@ -86,7 +87,8 @@ impl Sums {
     pub fn add_known(&mut self, slot: usize, value: i64) -> Result<(), NoMemory>
         ensures slots { self.new.slots ≡ self.old.slots }
         ensures ok { OnOk result (
-            (rows : List Row) → (row : Row) → get stack_cmp self.old.slots row.stack ≡ Some slot → row.value ≡ value
+            (rows : List Row) → (row : Row)
+            → get stack_cmp self.old.slots row.stack ≡ Some slot → row.value ≡ value
             → AreSums self.old.slots self.old.sums.items self.old.total rows
             → AreSums self.new.slots self.new.sums.items self.new.total (rows ++ row ∷ [])) }
         ensures err { OnErr result (

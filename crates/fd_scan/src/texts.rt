@@ -1,7 +1,7 @@
-ghost use Rattle.std.specs.Prelude.{◌≡◌, ◌++◌, ℕ, List, false, take, IfOk, OnOk, OnErr, slice_index_or};
+ghost use Rattle.std.specs.Prelude.{◌≡◌, ◌++◌, ℕ, List, false, take, slice_index_or};
+ghost use Rattle.std.specs.Prelude.{IfOk, OnOk, OnErr};
 ghost use Rattle.fd_kinds.specs.Meaning.{distinct};
 ghost use Rattle.fd_lists.specs.Texts.{text_cmp};
-ghost use Rattle.fd_column.specs.Dictionaries.{index_in};
 ghost use Rattle.fd_scan.specs.DistinctTexts.{SeesTexts, is_seen, seen_more, text_at, texts_at};
 
 use crate::sets::add_copy;
@@ -10,8 +10,8 @@ use fd_kinds::{NoMemory, Text};
 use std::alloc::Global;
 use std::collections::BTreeSet;
 
-#[tactic(auto, using(crate::proofs::TextTables::unseen_more))]
 /// A table of so many entries of which none is known.
+#[tactic(auto, using(crate::proofs::TextTables::unseen_more))]
 fn none_seen(alloc: Global, entries: usize) -> Result<Vec<bool>, NoMemory>
     ensures { IfOk result (λ seen. (entry : ℕ) → slice_index_or seen.items entry false ≡ false) }
 {

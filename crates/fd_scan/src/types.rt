@@ -1,4 +1,5 @@
-ghost use Rattle.std.specs.Prelude.{◌≡◌, ◌<◌, ◌&&◌, ℕ, not, pos, length, take, List, [], ◌∷◌, ◌++◌, map, All, OnOk, OnErr, IfOk, Decides, Some};
+ghost use Rattle.std.specs.Prelude.{◌≡◌, ◌<◌, ◌&&◌, ℕ, not, pos, length, take, List, [], ◌∷◌, ◌++◌};
+ghost use Rattle.std.specs.Prelude.{map, All, OnOk, OnErr, IfOk, Decides, Some};
 ghost use Rattle.fd_kinds.specs.declared.row.Row.{Row};
 ghost use Rattle.fd_kinds.specs.Meaning.{type_of, type_cmp, is_of_type};
 ghost use Rattle.std.specs.Ordering.{int_eq};
@@ -93,10 +94,13 @@ fn add_type_at<C: Columns>(
 ) -> Result<(), NoMemory>
     requires { at < length (C.rows columns.now) }
     ensures ok { OnOk result (
-        (rows : List Row) → AreDistinct type_cmp types.old.found.keys types.old.last (map type_of rows)
-        → AreDistinct type_cmp types.new.found.keys types.new.last (map type_of (rows ++ row_at (C.rows columns.now) at ∷ []))) }
+        (rows : List Row)
+        → AreDistinct type_cmp types.old.found.keys types.old.last (map type_of rows)
+        → AreDistinct type_cmp types.new.found.keys types.new.last
+        (map type_of (rows ++ row_at (C.rows columns.now) at ∷ []))) }
     ensures err { OnErr result (
-        (rows : List Row) → AreDistinct type_cmp types.old.found.keys types.old.last (map type_of rows)
+        (rows : List Row)
+        → AreDistinct type_cmp types.old.found.keys types.old.last (map type_of rows)
         → AreDistinct type_cmp types.new.found.keys types.new.last (map type_of rows)) }
 {
     if is_last_at(types, columns, at) {
@@ -114,11 +118,15 @@ pub fn add_types_at<C: Columns>(
 ) -> Result<(), NoMemory>
     requires { All (λ at. at < length (C.rows columns.now)) places.now }
     ensures ok { OnOk result (
-        (rows : List Row) → AreDistinct type_cmp types.old.found.keys types.old.last (map type_of rows)
-        → AreDistinct type_cmp types.new.found.keys types.new.last (map type_of (rows ++ rows_at (C.rows columns.now) places.now))) }
+        (rows : List Row)
+        → AreDistinct type_cmp types.old.found.keys types.old.last (map type_of rows)
+        → AreDistinct type_cmp types.new.found.keys types.new.last
+        (map type_of (rows ++ rows_at (C.rows columns.now) places.now))) }
     ensures err { OnErr result (
-        (k : ℕ) × ((rows : List Row) → AreDistinct type_cmp types.old.found.keys types.old.last (map type_of rows)
-        → AreDistinct type_cmp types.new.found.keys types.new.last (map type_of (rows ++ rows_at (C.rows columns.now) (take k places.now))))) }
+        (k : ℕ) × ((rows : List Row)
+        → AreDistinct type_cmp types.old.found.keys types.old.last (map type_of rows)
+        → AreDistinct type_cmp types.new.found.keys types.new.last
+        (map type_of (rows ++ rows_at (C.rows columns.now) (take k places.now))))) }
 {
     for at in places {
         add_type_at(alloc, types, columns, *at)?;

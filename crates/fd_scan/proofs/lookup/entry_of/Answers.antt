@@ -1,5 +1,5 @@
 use Rattle.std.proofs.Common.{◌<◌, length, arith, sym}
-use Rattle.fd_column.specs.Dictionaries.{entries_of}
+use Rattle.fd_dictionary.specs.Dictionaries.{entries_of}
 use Rattle.fd_scan.proofs.LookupLaws.{pick_more, pick_found}
 use Rattle.fd_scan.proofs.lookup.entry_of.Goals as goal
 

@@ -1,6 +1,6 @@
 use Rattle.std.proofs.Common.{◌≡◌, ◌+◌, drop}
 use Rattle.std.specs.Prelude.{option_map}
-use Rattle.fd_column.specs.Dictionaries.{pick_in, entries_of}
+use Rattle.fd_dictionary.specs.Dictionaries.{pick_in, entries_of}
 use Rattle.fd_scan.proofs.lookup.entry_of.Given as goal
 
 abbrev pub invariant-loop-at : goal.invariant-loop-at

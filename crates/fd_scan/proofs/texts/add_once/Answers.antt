@@ -1,5 +1,5 @@
 use Rattle.std.proofs.Common.{rules, ◌≡◌, true, subst, sym, ◌++◌}
-use Rattle.fd_column.specs.Dictionaries.{index_in}
+use Rattle.fd_dictionary.specs.Dictionaries.{index_in}
 use Rattle.fd_scan.specs.DistinctTexts.{SeesTexts, is_seen, seen_more, text_at}
 use Rattle.fd_scan.proofs.TextTables.{sees_still, sees_more}
 use Rattle.fd_scan.proofs.texts.add_once.Goals as goal
