@@ -16,6 +16,9 @@ import subprocess
 import sys
 
 ROOT = pathlib.Path(__file__).resolve().parent.parent
+sys.path.insert(0, str(ROOT / 'tools'))
+from program import help_asked, program_of  # noqa: E402
+
 MIB = 1 << 20
 LEEWAY = 1.5
 
@@ -133,7 +136,9 @@ def compare(program, start, name, few, many, factor, status):
 
 
 def main():
-    program = sys.argv[1:] or [str(ROOT / 'crates/frostd/out/frostd')]
+    if help_asked(sys.argv[1:], __doc__):
+        return 0
+    program = sys.argv[1:] or [program_of()]
     start = seconds(program, b'', b'200')
     fine = [compare(program, start, '300 and 30,000 samples', cpu_profile(300), cpu_profile(30_000), 100, b'200')]
     for build, status in ((unknown_numbers, b'200'), (unknown_texts, b'200'), (labels_past_the_end, b'422'),

@@ -10,13 +10,12 @@ rows, which are one sealed part, with one over 15, which are not sealed. The pro
 off by a session without requests.
 """
 import base64
-import pathlib
 import sys
 
 import linear
 from linear import seconds
+from program import help_asked, program_of
 
-ROOT = pathlib.Path(__file__).resolve().parent.parent
 PROFILE = base64.b64encode(bytes.fromhex(
     '0a0408011002' '12040801100a' '1206080208011014' '2206080122020801' '2206080222020802'
     '2a0408011003' '2a0408021004' '3200' '3203637075' '320b6e616e6f7365636f6e6473'
@@ -54,7 +53,9 @@ def sealed_over_loose(program):
 
 
 def main():
-    program = [sys.argv[1] if len(sys.argv) > 1 else str(ROOT / 'crates/frostd/out/frostd')]
+    if help_asked(sys.argv[1:], __doc__):
+        return
+    program = [program_of(sys.argv[1] if len(sys.argv) > 1 else None)]
     start = seconds(program, b'')
     for count in (10000, 50000):
         took = max(seconds(program, STATUS * count) - start, 1e-9)

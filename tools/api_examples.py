@@ -9,11 +9,11 @@ with the method and the target, the further header lines, the body, and a line w
 body of the reply. The text <N*x> stands for N times the character x. The requests are those of one
 session, in their order, and the last one ends it.
 """
-import pathlib
 import re
 import sys
 
-ROOT = pathlib.Path(__file__).resolve().parent.parent
+from program import ROOT, help_asked
+
 FOLDER = ROOT / 'crates/api_examples'
 REASONS = {
     200: 'OK', 400: 'Bad Request', 404: 'Not Found', 405: 'Method Not Allowed', 409: 'Conflict',
@@ -57,6 +57,8 @@ def reply_of(block, last):
 
 
 def main():
+    if help_asked(sys.argv[1:], __doc__):
+        return 0
     examples = blocks((ROOT / 'docs/API.md').read_text())
     files = {
         'stdin': b''.join(request_of(block) for block in examples),

@@ -13,6 +13,7 @@ a front of the last such reply.
 import os
 import pathlib
 import random
+import shutil
 import subprocess
 import sys
 import tempfile
@@ -20,6 +21,7 @@ import tempfile
 ROOT = pathlib.Path(__file__).resolve().parent.parent
 sys.path.insert(0, str(ROOT / 'tools'))
 from plain_answers import made_query, reply_of, write_of  # noqa: E402
+from program import help_asked, program_of  # noqa: E402
 
 BODY = b'{"error":"NoMemory"}'
 HEAD = b'HTTP/1.1 503 Service Unavailable\r\nContent-Type: application/json\r\nContent-Length: %d\r\n' % len(BODY)
@@ -70,7 +72,11 @@ def fault(steps, output, status):
 
 
 def main():
-    program = sys.argv[1] if len(sys.argv) > 1 else str(ROOT / 'crates/frostd/out/frostd')
+    if help_asked(sys.argv[1:], __doc__):
+        return 0
+    program = program_of(sys.argv[1] if len(sys.argv) > 1 else None)
+    if shutil.which('cc') is None:
+        sys.exit('there is no C compiler cc; on Debian, `apt-get install gcc` brings one')
     writes = int(sys.argv[2]) if len(sys.argv) > 2 else 3
     stride = int(sys.argv[3]) if len(sys.argv) > 3 else 1
     steps = made_steps(writes)

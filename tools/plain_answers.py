@@ -25,6 +25,7 @@ ROOT = pathlib.Path(__file__).resolve().parent.parent
 sys.path.insert(0, str(ROOT / 'bench'))
 import linear  # noqa: E402
 from linear import held  # noqa: E402
+from program import help_asked, program_of  # noqa: E402
 
 LEAST, MOST = -(1 << 63), (1 << 63) - 1
 
@@ -246,14 +247,16 @@ def stored(write):
         if write:
             path.write_bytes(wanted)
         same = same and path.read_bytes() == wanted
-    print(f'{len(requests)} requests:', 'the stored run' if same else 'the stored run is another')
+    print(f'{len(requests)} requests:', 'the stored run' if same else 'the stored run is another: run tools/plain_answers.py --stored --write')
     return 0 if same else 1
 
 
 def main():
+    if help_asked(sys.argv[1:], __doc__):
+        return 0
     if sys.argv[1:2] == ['--stored']:
         return stored(sys.argv[2:] == ['--write'])
-    program = sys.argv[1] if len(sys.argv) > 1 else str(ROOT / 'crates/frostd/out/frostd')
+    program = program_of(sys.argv[1] if len(sys.argv) > 1 else None)
     rounds = int(sys.argv[2]) if len(sys.argv) > 2 else 40
     rng = random.Random(int(sys.argv[3]) if len(sys.argv) > 3 else 1)
     compared = 0
