@@ -4,14 +4,17 @@
 usage: tools/block_file.py OUT [PROGRAM [WRITES [SEED]]]
        tools/block_file.py --stored [--write]
     OUT: where the file goes, which tools/parquet_reader.py prints, and any other Parquet reader
-    PROGRAM: default crates/block_file/out/block_file, made by `rt run`; WRITES: default 12, SEED: default 1
-    --stored says whether the stored run of crates/block_file is the session of three made writes with the
-    file of their rows, and with --write makes it
+    PROGRAM: default crates/block_file/out/block_file, made by `rt run`; WRITES: 1 or more, default 12; SEED:
+        default 1
+    --stored says whether the stored run of crates/block_file is the session of made writes with the file of
+    their rows, whose columns have two pages, and with --write makes it
 
 It makes a session of writes (those of tools/plain_answers.py) and runs the program on it. The rows that
 the reader finds in the file must be the plain list of the rows written, in their order and with their
-numbers, and the file must be the one that is spelled here from that list. The spelling is made from the
-description of the file alone:
+numbers, and the file must be the one that is spelled here from that list. Each place that the footer tells
+must be the chunk's own, told twice, and its entries the range of the numbers. Before that it lets the reader
+try a small file with one bit of each byte of the footer changed, of which none may pass for the file of the
+same rows. The spelling is made from the description of the file alone:
 
 - PAR1, the chunks in the order of the columns, the footer, its length in four bytes, and PAR1. There is one
   row group, and none where there are no rows.
@@ -31,11 +34,15 @@ import sys
 
 import parquet_reader
 import plain_answers
-from plain_answers import compare_labels, label_key
+from plain_answers import label_key
+from program import help_asked, program_of
 
 ROOT = pathlib.Path(__file__).resolve().parent.parent
 FOLDER = ROOT / 'crates/block_file'
-STORED_SEED, STORED_WRITES = 4, 3
+# More rows than a page has, of more writes than one compaction takes.
+STORED_SEED, STORED_WRITES, STORED_SERIES = 4, 18, 20
+# A write of a few rows with labels of both kinds.
+SMALL_SEED = 9
 # So many series a write, that pages are filled.
 MOST_SERIES = 100
 
@@ -243,9 +250,33 @@ def session_of(rng, writes, most):
     return b''.join(requests), sorted(numbered, key=row_key)
 
 
-def difference(data, numbered):
-    """Where the rows that the reader finds are not these, or None."""
-    found = parquet_reader.read(data)
+def told_otherwise(found, lo, hi):
+    """What the footer tells beside columns and rows that is not as it is written here, or None."""
+    footer = found.footer
+    if footer['version'] != 1 or found.created_by != 'frostd':
+        return 'the version or the writer is another'
+    if found.entries != [('hi', str(hi)), ('lo', str(lo)), ('pages', 'plain')]:
+        return f'the entries are {found.entries}'
+    if footer['schema'][0]['name'] != 'schema':
+        return 'the root has another name'
+    place = 4
+    for chunk in footer['row_groups'][0]['columns'] if footer['row_groups'] else []:
+        meta = chunk['meta_data']
+        if (chunk['file_offset'], meta['data_page_offset']) != (place, place):
+            return f'a chunk begins at {place}, and is told at {chunk["file_offset"]} and {meta["data_page_offset"]}'
+        place += meta['total_compressed_size']
+    return None
+
+
+def difference(data, numbered, lo, hi):
+    """Where what the reader finds is not these rows with this range, or None."""
+    try:
+        found = parquet_reader.read(data)
+    except parquet_reader.Refused as why:
+        return f'the reader refuses it: {why}'
+    otherwise = told_otherwise(found, lo, hi)
+    if otherwise:
+        return otherwise
     columns = columns_of(numbered)
     if [(column.name, column.type, column.optional) for column in found.columns] != [(column.name, column.kind, column.optional) for column in columns]:
         return 'the columns are others'
@@ -276,18 +307,29 @@ def check_spelling():
         assert found.hex() == wanted, (found.hex(), wanted)
 
 
+def check_reader():
+    """A small file with a bit of its footer changed is refused, or something else is found in it."""
+    _, numbered = session_of(random.Random(SMALL_SEED), 1, 1)
+    data = file_of(numbered, 1, 1)
+    assert numbered and difference(data, numbered, 1, 1) is None
+    for at in range(parquet_reader.footer_of(data)[1], len(data)):
+        changed = data[:at] + bytes([data[at] ^ 1 << at % 7]) + data[at + 1:]
+        assert difference(changed, numbered, 1, 1) is not None, f'byte {at} of {len(data)} is another, and the same is read'
+
+
 def stored(write):
-    """Whether the stored run is that of the session of a few made writes."""
-    session, numbered = session_of(random.Random(STORED_SEED), STORED_WRITES, 3)
+    """Whether the stored run is that of the session of made writes."""
+    session, numbered = session_of(random.Random(STORED_SEED), STORED_WRITES, STORED_SERIES)
     wanted = file_of(numbered, 1, STORED_WRITES)
-    assert difference(wanted, numbered) is None
+    assert PAGE_ROWS < len(numbered) <= 2 * PAGE_ROWS
+    assert difference(wanted, numbered, 1, STORED_WRITES) is None
     same = True
     for name, content in (('stdin', session), ('stdout', wanted)):
         path = FOLDER / name
         if write:
             path.write_bytes(content)
         same = same and path.read_bytes() == content
-    print(f'{len(numbered)} rows of {STORED_WRITES} writes:', 'the stored run' if same else 'the stored run is another')
+    print(f'{len(numbered)} rows of {STORED_WRITES} writes:', 'the stored run' if same else 'the stored run is another: run tools/block_file.py --stored --write')
     return 0 if same else 1
 
 
@@ -299,7 +341,7 @@ def write_file(out, program, writes, seed):
     if done.returncode != 0:
         print(f'the program ended with status {done.returncode}')
         return 1
-    found = difference(done.stdout, numbered)
+    found = difference(done.stdout, numbered, 1, writes)
     if found is None and done.stdout != file_of(numbered, 1, writes):
         found = 'the rows are those written, and the file is spelled otherwise'
     print(f'{out}: {len(done.stdout)} bytes, {len(numbered)} rows of {writes} writes, ' + (found or 'as a plain list of rows gives them'))
@@ -307,13 +349,16 @@ def write_file(out, program, writes, seed):
 
 
 def main():
+    if help_asked(sys.argv[1:], __doc__):
+        return 0
     check_spelling()
+    check_reader()
     if sys.argv[1:2] == ['--stored']:
         return stored(sys.argv[2:] == ['--write'])
     if len(sys.argv) < 2:
-        print(__doc__, file=sys.stderr)
+        print(__doc__.strip('\n'), file=sys.stderr)
         return 1
-    program = sys.argv[2] if len(sys.argv) > 2 else str(FOLDER / 'out/block_file')
+    program = program_of(sys.argv[2] if len(sys.argv) > 2 else None, FOLDER.name)
     writes = int(sys.argv[3]) if len(sys.argv) > 3 else 12
     seed = int(sys.argv[4]) if len(sys.argv) > 4 else 1
     return write_file(pathlib.Path(sys.argv[1]), program, writes, seed)

@@ -2,6 +2,7 @@
 """Reads an Apache Parquet file without libraries, and prints it as lines of JSON.
 
 usage: tools/parquet_reader.py FILE [--pyarrow]
+    FILE: `tools/block_file.py FILE` writes one of frostd's
     prints a line {"schema": [..]}, a line {"created_by": .., "entries": [..]}, and a line {"row": {..}} for
     each row; a file that is refused ends it with status 1 and a line that says why
     --pyarrow also reads the file with pyarrow, where that can be imported, and compares
@@ -10,8 +11,10 @@ It is made from the public descriptions alone (parquet-format: README.md, parque
 Thrift's thrift-compact-protocol.md). It takes the files of at most one row group whose columns are INT64
 or BYTE_ARRAY, required or optional and not nested, in data pages of version 1 with PLAIN values and
 without compression. What such a file says twice must agree: the counts of rows and values, the sizes of
-the file, the row group, the chunks and the pages, the places of the chunks, the columns of the schema and
-of the row group, the encodings and the checksums. Fields that the descriptions do not name are skipped.
+the file, the row group, the chunks and the pages, the places of the row group and of the chunks, the columns
+of the schema and of the row group, the encodings and the checksums. A chunk's file_offset, which the
+descriptions call deprecated, is 0 where it is not told, and else its first page. Fields that the descriptions
+do not name are skipped.
 
 A BYTE_ARRAY is printed as a text where it is UTF-8, and else as {"bytes": HEXADECIMAL}.
 """
@@ -20,6 +23,8 @@ import pathlib
 import struct
 import sys
 import zlib
+
+from program import help_asked
 
 MAGIC = b'PAR1'
 DEEPEST = 32
@@ -322,6 +327,7 @@ def check_chunk(chunk, column, rows):
     need(meta['dictionary_page_offset'] is None, f'the chunk of {column.name} has a dictionary')
     need(meta['total_compressed_size'] == meta['total_uncompressed_size'], f'the chunk of {column.name} has two sizes')
     need(meta['total_compressed_size'] >= 0, f'the chunk of {column.name} has a negative size')
+    need(chunk['file_offset'] in (0, meta['data_page_offset']), f'the chunk of {column.name} has two places, {chunk["file_offset"]} and {meta["data_page_offset"]}')
     need(meta['num_values'] == rows, f'the chunk of {column.name} has {meta["num_values"]} values for {rows} rows')
 
 
@@ -352,6 +358,7 @@ def group_of(data, group, columns, end):
     need(rows >= 0, f'the row group has {rows} rows')
     need(len(chunks) == len(columns), f'there are {len(chunks)} chunks for {len(columns)} columns')
     check_places(group, end)
+    need(group['file_offset'] in (None, min((place_of(chunk['meta_data'])[0] for chunk in chunks if chunk['meta_data']), default=None)), f'the row group stands at {group["file_offset"]}, and its first chunk does not')
     values = [chunk_of(data, chunk, column, rows) for chunk, column in zip(chunks, columns)]
     size = sum(chunk['meta_data']['total_uncompressed_size'] for chunk in chunks)
     need(group['total_byte_size'] == size, f'the row group says {group["total_byte_size"]} bytes, and its chunks {size}')
@@ -360,10 +367,12 @@ def group_of(data, group, columns, end):
 
 
 class File:
-    """What a file has: its columns, its key-value entries and its rows, each a value by each name."""
+    """What a file has: its columns, its key-value entries and its rows, each a value by each name; and its footer."""
 
-    def __init__(self, columns, entries, rows, created_by):
-        self.columns, self.entries, self.rows, self.created_by = columns, entries, rows, created_by
+    def __init__(self, columns, rows, footer):
+        self.columns, self.rows, self.footer = columns, rows, footer
+        self.entries = [(entry['key'], entry['value']) for entry in footer['key_value_metadata'] or []]
+        self.created_by = footer['created_by']
 
 
 def footer_of(data):
@@ -392,8 +401,7 @@ def read(data):
     names = [column.name for column in columns]
     values = group_of(data, groups[0], columns, end) if groups else []
     rows = [dict(zip(names, cells)) for cells in zip(*values)]
-    entries = [(entry['key'], entry['value']) for entry in footer['key_value_metadata'] or []]
-    return File(columns, entries, rows, footer['created_by'])
+    return File(columns, rows, footer)
 
 
 def printed(value):
@@ -427,13 +435,15 @@ def compare_pyarrow(path, file):
 
 
 def main():
+    if help_asked(sys.argv[1:], __doc__):
+        return 0
     paths = [word for word in sys.argv[1:] if word != '--pyarrow']
     if len(paths) != 1:
-        print(__doc__, file=sys.stderr)
+        print(__doc__.strip('\n'), file=sys.stderr)
         return 1
     try:
         file = read(pathlib.Path(paths[0]).read_bytes())
-    except Refused as why:
+    except (OSError, Refused) as why:
         print(f'{paths[0]}: {why}', file=sys.stderr)
         return 1
     for line in lines_of(file):
