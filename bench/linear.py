@@ -138,7 +138,7 @@ def compare(program, start, name, few, many, factor, status):
 def main():
     if help_asked(sys.argv[1:], __doc__):
         return 0
-    program = sys.argv[1:] or [program_of()]
+    program = [program_of(*sys.argv[1:2])] + sys.argv[2:]
     start = seconds(program, b'', b'200')
     fine = [compare(program, start, '300 and 30,000 samples', cpu_profile(300), cpu_profile(30_000), 100, b'200')]
     for build, status in ((unknown_numbers, b'200'), (unknown_texts, b'200'), (labels_past_the_end, b'422'),

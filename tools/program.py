@@ -5,6 +5,7 @@
 """
 import os
 import pathlib
+import shutil
 import signal
 import sys
 
@@ -29,7 +30,7 @@ def made_by(crate):
 
 def program_of(path=None, crate='frostd'):
     """The path of a program, which is that of the crate where none is given. The script ends where there is none."""
-    path = pathlib.Path(path) if path else ROOT / 'crates' / crate / 'out' / crate
+    path = pathlib.Path(shutil.which(path or '') or path or ROOT / 'crates' / crate / 'out' / crate)
     if path.is_file() and os.access(path, os.X_OK):
         return str(path.resolve())
-    sys.exit(f'there is no program {path}; from the top of the repository this proves and makes it: {made_by(crate)}')
+    sys.exit(f'there is no program {path}; from the top of the repository this proves and makes {crate}: {made_by(crate)}')

@@ -7,7 +7,8 @@ usage: tools/wrong_bodies.py NAME..
 A wrong body is a file as a must-fail edit is one: a line 'file: src/..', and pairs of lines 'old: TEXT', which stands
 once in that file, and 'new: TEXT'. It works on a copy of the repository without what is built, where these edits
 stand in the place of the must-fail edits of the crates that are named, and lets `rt must-fail` try them there. Each
-must be refused; ends with status 1 where one is not, or cannot be applied or read.
+must be refused; ends with status 1 where one is not, or cannot be applied or read. One that is refused only because
+a proof file names what it took away says little of the contract, and is told too.
 
 The copy begins with what `rt check` has proved on this machine, so run that first. An edit takes 20 to 60 seconds of
 a processor. By hand, when the contracts of a crate change.
@@ -22,13 +23,15 @@ import tempfile
 from program import ROOT, help_asked
 
 NOT_COPIED = shutil.ignore_patterns('.git', 'out', '__pycache__')
-# What `rt must-fail` says of an edit, and what that is here. The last one is refused, and tells little of a contract.
+# What `rt must-fail` says of an edit, and what that is here.
 SAID = {
     'refused': 'refused',
     'NOT REFUSED': 'not refused',
     'BAD EDIT': 'a bad edit',
     'NOT TRIED': 'not tried',
 }
+# Of an edit that is refused so, the contract tells little: it is to be written with the names that proofs cite.
+SAYS_LITTLE = 'only because a proof file names'
 
 
 def crates_of(names):
@@ -56,16 +59,17 @@ def told(line):
 
 
 def tried(names, top):
-    """What each edit came to, by its name."""
-    results = {}
+    """What each edit came to, by its name, and the edits whose refusal says little."""
+    results, little = {}, []
     run = subprocess.Popen(['rt', 'must-fail', *names], cwd=top, stdout=subprocess.PIPE, stderr=subprocess.STDOUT, text=True, errors='replace')
     for line in run.stdout:
         print(line, end='', flush=True)
         found = told(line)
         if found:
             results[found[0]] = found[1]
+            little += [found[0]] * (SAYS_LITTLE in line)
     run.wait()
-    return results
+    return results, little
 
 
 def main():
@@ -78,9 +82,10 @@ def main():
     wanted = [f'{folder.name}/{edit.name}' for folder in crates_of(words) for edit in sorted((folder / 'wrong-bodies').glob('*.edit'))]
     with tempfile.TemporaryDirectory(prefix='wrong-bodies-') as room:
         copy_of(words, pathlib.Path(room))
-        results = tried(words, pathlib.Path(room))
+        results, little = tried(words, pathlib.Path(room))
     others = [f'{edit}: {results.get(edit, "not tried")}' for edit in wanted if results.get(edit) != 'refused']
-    print('\n'.join(others + [f'{len(wanted)} wrong bodies, {len(wanted) - len(others)} refused']))
+    told_little = [f'{edit}: refused only for a name that a proof file cites' for edit in little]
+    print('\n'.join(others + told_little + [f'{len(wanted)} wrong bodies, {len(wanted) - len(others)} refused']))
     return 1 if others else 0
 
 
