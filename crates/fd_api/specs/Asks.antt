@@ -3,9 +3,9 @@ use Rattle.std.specs.Prelude.{◌≡◌, ℕ, ℤ, pos, negsuc, ◌-◌, ◌^◌
 use Rattle.std.specs.List.Sorted.{IsPermutation}
 use Rattle.std.specs.Str.Parse.{digits_value}
 use Rattle.fd_lists.specs.Digits.{is_size}
-use Rattle.fd_kinds.specs.declared.kinds.Pair.{Pair}
+use Rattle.fd_kinds.specs.declared.pair.Pair.{Pair}
 use Rattle.fd_kinds.specs.declared.query.Selector.{Selector}
-use Rattle.fd_kinds.specs.declared.raw.RawBody.{RawBody}
+use Rattle.fd_kinds.specs.declared.body.RawBody.{RawBody}
 use Rattle.fd_http.specs.declared.request.Request.{Request}
 use Rattle.fd_json.specs.declared.fault.BodyFault.{BodyFault}
 use Rattle.fd_json.specs.declared.refusal.Fault.{Fault}

@@ -3,7 +3,7 @@ use Rattle.std.specs.Prelude.{ℕ, List, map, reverse, Option, option_map, find,
 use Rattle.std.specs.List.{before_first, after_first}
 use Rattle.std.specs.Str.Lossy.{utf8_lossy}
 use Rattle.form_urlencoded.specs.Form.{raw_pairs, decode}
-use Rattle.fd_kinds.specs.declared.kinds.Pair.{Pair}
+use Rattle.fd_kinds.specs.declared.pair.Pair.{Pair}
 
 -- what stands before the first `?`, or all
 abbrev pub path_of : List ℕ → List ℕ

@@ -11,7 +11,7 @@ use crate::{Handled, Note, Notes};
 use fd_device::{Put, Sink, Source};
 use fd_http::{Arrived, Inbox, Request, RequestFault, Response, SendFault, next_request, reply};
 use fd_json::Fault;
-use fd_kinds::{Roomy, Store};
+use fd_kinds::{RoomyList, Store};
 use std::alloc::Global;
 
 /// How a session ended.
@@ -181,7 +181,7 @@ fn turn<T: Store, S: Source, K: Sink>(
     input: &mut S,
     out: &mut K,
     inbox: &mut Inbox,
-    notes: &mut Roomy<Note>,
+    notes: &mut RoomyList<Note>,
     last: bool,
 ) -> Option<EndKind>
     requires { T.has_failed store.old ≡ false }
@@ -218,7 +218,7 @@ pub fn session<T: Store, S: Source, K: Sink>(
     ensures sink { SinkCause (K.faults out.old) (K.faults out.new) result.end }
     ensures disk { StoreCause (T.faults store.old) (T.faults store.new) result.end }
 {
-    let mut notes = Roomy::new(alloc);
+    let mut notes = RoomyList::new(alloc);
     let mut inbox = match Inbox::new(alloc) {
         Ok(inbox) => inbox,
         Err(_) => {

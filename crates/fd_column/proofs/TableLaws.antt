@@ -7,7 +7,7 @@ use Rattle.std.proofs.lemmas.List.{map-append, length-map}
 use Rattle.std.proofs.lemmas.List.FromFn.{fill_by_all, length-map-range_with_len, get_or-map-range_with_len}
 use Rattle.std.proofs.lemmas.List.Elements.{All-get_or, All-push, All-nil}
 use Rattle.std.proofs.lemmas.Option.{slice_get-map, slice_get-get_or}
-use Rattle.fd_kinds.specs.declared.kinds.Pair.{Pair}
+use Rattle.fd_kinds.specs.declared.pair.Pair.{Pair}
 use Rattle.fd_kinds.specs.declared.row.Numbered.{Numbered}
 use Rattle.fd_column.specs.declared.table.Table.{Table}
 use Rattle.fd_dictionary.specs.Dictionaries.{Cells, cell_in}

@@ -2,7 +2,7 @@
 use Rattle.std.specs.Prelude.{refl, ℕ, suc, if◌then◌else◌, List, [], ◌∷◌, ◌++◌, map, fold, replicate, slice_get, Option, Some, None, option_map, option_and_then}
 use Rattle.std.specs.List.{filter_map}
 use Rattle.std.specs.Ordering.{is_eq, match_ordering}
-use Rattle.fd_kinds.specs.declared.kinds.Pair.{Pair}
+use Rattle.fd_kinds.specs.declared.pair.Pair.{Pair}
 use Rattle.fd_kinds.specs.declared.labels.Labels.{Labels}
 use Rattle.fd_kinds.specs.Labels.{are_labels}
 use Rattle.fd_kinds.specs.LabelMaps.{value_of}

@@ -1,6 +1,6 @@
 -- The texts of rows are UTF-8.
 use Rattle.std.specs.Prelude.{List, All, IsUtf8}
-use Rattle.fd_kinds.specs.declared.kinds.Pair.{Pair}
+use Rattle.fd_kinds.specs.declared.pair.Pair.{Pair}
 use Rattle.fd_kinds.specs.declared.row.Numbered.{Numbered}
 use Rattle.fd_kinds.specs.declared.row.Row.{Row}
 

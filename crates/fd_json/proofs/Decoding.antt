@@ -1,7 +1,7 @@
 -- What the loops over sent profiles and series have gathered.
 use Rattle.std.proofs.Common.{◌≡◌, ℕ, ◌+◌, List, [], ◌∷◌, ◌++◌, length, Option, Some, None, Result, Ok, Err, refl, sym, ap, ◌∙◌, arith, append_assoc, append-nil}
-use Rattle.fd_kinds.specs.declared.kinds.Pair.{Pair}
-use Rattle.fd_kinds.specs.declared.raw.RawSeries.{RawSeries}
+use Rattle.fd_kinds.specs.declared.pair.Pair.{Pair}
+use Rattle.fd_kinds.specs.declared.body.RawSeries.{RawSeries}
 use Rattle.fd_json.specs.declared.fault.BodyFault.{BodyFault}
 use Rattle.fd_json.specs.declared.fault.BodyFault.TheVariants.{BadBase64}
 use Rattle.fd_json.specs.declared.shape.SentSeries.{SentSeries}

@@ -3,7 +3,7 @@ use Rattle.std.specs.Prelude.{ℕ, ℤ, List, map, codes, decimal}
 use Rattle.std.specs.Fmt.{signed_decimal}
 use Rattle.serde_json.specs.Data.{Data, boolean, string, array, object, member, no_members}
 use Rattle.serde_json.specs.View.{items_of}
-use Rattle.fd_kinds.specs.declared.kinds.Pair.{Pair}
+use Rattle.fd_kinds.specs.declared.pair.Pair.{Pair}
 use Rattle.fd_kinds.specs.declared.labels.Labels.{Labels}
 use Rattle.fd_kinds.specs.declared.query.Answer.{Answer}
 use Rattle.fd_kinds.specs.declared.query.Answer.TheVariants.{Types, Names, Values, Series, Range, Merge}

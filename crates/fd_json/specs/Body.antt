@@ -1,8 +1,8 @@
 -- What a write body means, and why it means nothing.
 use Rattle.std.specs.Prelude.{ℕ, ◌+◌, List, [], ◌∷◌, Option, Some, None, Result, Ok, Err}
 use Rattle.serde_json.specs.Data.{Data}
-use Rattle.fd_kinds.specs.declared.raw.RawSeries.{RawSeries}
-use Rattle.fd_kinds.specs.declared.raw.RawBody.{RawBody}
+use Rattle.fd_kinds.specs.declared.body.RawSeries.{RawSeries}
+use Rattle.fd_kinds.specs.declared.body.RawBody.{RawBody}
 use Rattle.fd_json.specs.Json.{json_of}
 use Rattle.fd_json.specs.Shape.{shape_of}
 use Rattle.fd_json.specs.declared.shape.SentSeries.{SentSeries}

@@ -3,7 +3,7 @@ use Rattle.std.specs.Prelude.{◌≡◌, ℕ, ℤ, ◌+◌, ◌++◌, List, [], 
 use Rattle.std.proofs.Common.{arith, ap, sym, ◌∙◌, length-append}
 use Rattle.std.proofs.lemmas.List.Concat.{length-flat_map}
 use Rattle.std.proofs.lemmas.List.Sums.{sum_by-cons}
-use Rattle.fd_kinds.specs.declared.kinds.Pair.{Pair}
+use Rattle.fd_kinds.specs.declared.pair.Pair.{Pair}
 use Rattle.fd_kinds.specs.declared.row.Row.{Row}
 use Rattle.fd_kinds.specs.RowSize.{text_size, pair_size, labels_size, stack_size, row_size}
 use Rattle.fd_kinds.specs.RowSpelling.{count_bytes, text_spelling, pair_spelling, labels_spelling, stack_spelling, whole_spelling, row_spelling}

@@ -1,7 +1,7 @@
 -- The bytes of a row in the log. Whole numbers are little-endian, and negative ones in two's complement.
 use Rattle.std.specs.Prelude.{ℕ, ℤ, ◌++◌, List, length, flat_map}
 use Rattle.std.specs.Int.{w32, w64, to_le_bytes, cast_unsigned}
-use Rattle.fd_kinds.specs.declared.kinds.Pair.{Pair}
+use Rattle.fd_kinds.specs.declared.pair.Pair.{Pair}
 use Rattle.fd_kinds.specs.declared.row.Row.{Row}
 
 -- a length or a count

@@ -20,11 +20,12 @@ pub fn row_order_laws()
 {}
 
 /// What a query means does not depend on the order of the rows: those in another order, each as
-/// often as before, give the same answer. So a store may keep its rows in blocks and parts, sort them
-/// and merge them, and scan them in any order.
+/// often as before, give the same answer. So a store may keep its rows in blocks and parts, sort
+/// them and merge them, and scan them in any order.
 #[tactic(auto, using(crate::proofs::Meanings::same_meaning))]
 pub fn meaning_laws()
-    ensures meaning { (query : Query) → (a b : List Row) → IsPermutation a b → meaning query a ≡ meaning query b }
+    ensures meaning { (query : Query) → (a b : List Row)
+        → IsPermutation a b → meaning query a ≡ meaning query b }
 {}
 
 /// The bytes of a row in the log are as many as its size counts.
@@ -33,8 +34,8 @@ pub fn row_spelling_laws()
     ensures length { (r : Row) → length (row_spelling r) ≡ row_size r }
 {}
 
-/// Of two writes that a store accepts, the later one has the greater number. So a store that answers
-/// the same number twice is none.
+/// Of two writes that a store accepts, the later one has the greater number. So a store that
+/// answers the same number twice is none.
 pub fn store_laws()
     ensures numbers { (old mid new : StoreView) (first second : List Row) (number later : ℕ)
         → WriteFacts old first (Ok number) mid

@@ -1,11 +1,11 @@
 //! Limits that several crates keep.
 
-/// The most bytes that the rows of one batch have, by their spelling in the log. A frame of the log
-/// takes at most 268,435,456 bytes, so that one batch and its head always fit.
+/// The most bytes that the rows of one batch have, by their spelling in the log. A write body's
+/// rows have fewer by an eighth, so that what else a batch is spelled with always fits.
 pub const MOST_BATCH_BYTES: u64 = 150_994_944;
 
 /// Numbers are drawn while fewer than so many were, so that no count of batches leaves 63 bits.
 pub const MOST_NUMBERS: u64 = 1 << 62;
 
-/// So many parts of the active block that are not sealed are compacted into one.
+/// So many loose parts of the active block are compacted into one sealed part.
 pub const MOST_LOOSE_PARTS: u64 = 16;

@@ -5,13 +5,13 @@
 mod digits;
 mod items;
 mod memory;
-mod roomy;
+mod room;
 mod share;
 mod text;
 
 pub use digits::read_size;
 pub use items::{Bytes, BytesList, Items};
 pub use memory::NoMemory;
-pub use roomy::Roomy;
+pub use room::RoomyList;
 pub use share::Share;
 pub use text::{Text, Texts};

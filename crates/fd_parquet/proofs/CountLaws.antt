@@ -5,7 +5,7 @@ use Rattle.std.specs.declared.cmp.Ordering.TheVariants.{Less, Equal, Greater}
 use Rattle.std.specs.BTreeSet.{insert_key}
 use Rattle.std.proofs.lemmas.List.{length-map}
 use Rattle.std.proofs.lemmas.List.Sums.{sum_by-cons}
-use Rattle.fd_kinds.specs.declared.kinds.Pair.{Pair}
+use Rattle.fd_kinds.specs.declared.pair.Pair.{Pair}
 use Rattle.fd_kinds.specs.declared.row.Numbered.{Numbered}
 use Rattle.fd_lists.specs.Texts.{text_cmp}
 use Rattle.fd_kinds.specs.RowSize.{pair_size, row_size}

@@ -6,7 +6,7 @@ use Rattle.std.specs.Option.{option_copied, MatchOption}
 use Rattle.std.specs.Borrow.{Bor}
 use Rattle.std.proofs.lemmas.List.{append-nil, drop_more, drop_all}
 use Rattle.std.proofs.lemmas.Bool.Decides.{Decides-eqb}
-use Rattle.fd_kinds.specs.declared.kinds.Pair.{Pair}
+use Rattle.fd_kinds.specs.declared.pair.Pair.{Pair}
 use Rattle.fd_kinds.specs.declared.labels.Labels.{Labels}
 use Rattle.fd_kinds.specs.Labels.{are_labels}
 use Rattle.fd_kinds.specs.LabelsOf.{with_pairs}

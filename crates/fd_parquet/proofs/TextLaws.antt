@@ -4,7 +4,7 @@ use Rattle.std.specs.Prelude.{All, IfSome, IsUtf8}
 use Rattle.std.specs.Ordering.{is_eq}
 use Rattle.std.proofs.lemmas.Bool.{and_parts}
 use Rattle.std.proofs.lemmas.List.Elements.{All-nil, All-cons, All-head, All-tail, All-get_or}
-use Rattle.fd_kinds.specs.declared.kinds.Pair.{Pair}
+use Rattle.fd_kinds.specs.declared.pair.Pair.{Pair}
 use Rattle.fd_kinds.specs.declared.row.Numbered.{Numbered}
 use Rattle.fd_kinds.specs.Labels.{are_labels, is_before, is_empty}
 use Rattle.fd_kinds.specs.LabelMaps.{value_of}

@@ -11,14 +11,14 @@ use Rattle.std.specs.BTreeSet.{BTreeSet, contains}
 use Rattle.std.specs.Cmp.{unsigned_tied}
 use Rattle.std.proofs.lemmas.Bool.{and_parts}
 use Rattle.std.proofs.lemmas.List.Sums.{sum_by-cons, sum_by_push}
-use Rattle.fd_kinds.specs.declared.kinds.Pair.{Pair}
+use Rattle.fd_kinds.specs.declared.pair.Pair.{Pair}
 use Rattle.fd_lists.specs.Texts.{text_cmp}
 use Rattle.fd_kinds.specs.RowSize.{pair_size}
 use Rattle.fd_kinds.specs.Labels.{are_labels}
 use Rattle.fd_kinds.specs.LabelMaps.{is_kept, value_of, last_value_of, put, in_order}
 use Rattle.fd_kinds.specs.LabelsOf.{with_pairs, labels_of}
-use Rattle.fd_kinds.proofs.Collected.{last_value_push}
-use Rattle.fd_kinds.proofs.Placed.{in_order_are_labels, in_order_value, same_maps}
+use Rattle.fd_kinds.proofs.LabelCollection.{last_value_push}
+use Rattle.fd_kinds.proofs.PairPlacement.{in_order_are_labels, in_order_value, same_maps}
 use Rattle.fd_pprof.specs.Frames.{text}
 use Rattle.fd_pprof.specs.Winners.{place_from, text_numbers, wins, AreSeen, AreWinners}
 use Rattle.fd_pprof.proofs.TextNumbers.{same_by, ties, number_of}

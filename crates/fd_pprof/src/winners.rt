@@ -1,5 +1,5 @@
 ghost use Rattle.std.specs.Prelude.{◌≡◌, ◌+◌, ◌-◌, ◌^◌, ◌∷◌, List, map, min, length, sum_by, IfOk};
-ghost use Rattle.fd_kinds.specs.declared.kinds.Pair.{Pair};
+ghost use Rattle.fd_kinds.specs.declared.pair.Pair.{Pair};
 ghost use Rattle.fd_kinds.specs.RowSize.{pair_size};
 ghost use Rattle.fd_kinds.specs.LabelMaps.{is_kept};
 ghost use Rattle.fd_kinds.specs.LabelsOf.{labels_of};

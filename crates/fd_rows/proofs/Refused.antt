@@ -6,8 +6,8 @@ use Rattle.std.specs.List.{flat_map}
 use Rattle.std.proofs.lemmas.List.{drop_all, append-nil}
 use Rattle.std.proofs.lemmas.List.Sorted.{sum_by-IsPermutation}
 use Rattle.fd_kinds.specs.declared.row.Row.{Row}
-use Rattle.fd_kinds.specs.declared.raw.RawSeries.{RawSeries}
-use Rattle.fd_kinds.specs.declared.raw.RawBody.{RawBody}
+use Rattle.fd_kinds.specs.declared.body.RawSeries.{RawSeries}
+use Rattle.fd_kinds.specs.declared.body.RawBody.{RawBody}
 use Rattle.fd_kinds.specs.RowSize.{row_size}
 use Rattle.fd_pprof.specs.declared.profile.Profile.{Profile}
 use Rattle.fd_pprof.specs.Profile.{profile_of, profile_refusal}

@@ -2,10 +2,10 @@
 pub use Rattle.fd_rows.specs.Rows.{body_rows}
 use Rattle.std.specs.Prelude.{ℕ, ◌+◌, Bool, List, [], ◌∷◌, ◌++◌, Option, Some, None, length, nat_lt, sum_by, if◌then◌else◌}
 use Rattle.std.specs.Option.{option_or, option_map}
-use Rattle.fd_kinds.specs.declared.kinds.Pair.{Pair}
+use Rattle.fd_kinds.specs.declared.pair.Pair.{Pair}
 use Rattle.fd_kinds.specs.declared.row.Row.{Row}
-use Rattle.fd_kinds.specs.declared.raw.RawSeries.{RawSeries}
-use Rattle.fd_kinds.specs.declared.raw.RawBody.{RawBody}
+use Rattle.fd_kinds.specs.declared.body.RawSeries.{RawSeries}
+use Rattle.fd_kinds.specs.declared.body.RawBody.{RawBody}
 use Rattle.fd_kinds.specs.Labels.{is_empty}
 use Rattle.fd_kinds.specs.RowSize.{row_size}
 use Rattle.fd_pprof.specs.Profile.{profile_refusal}

@@ -3,10 +3,10 @@ use Rattle.std.specs.Prelude.{ℕ, ℤ, pos, not, List, [], ◌∷◌, if◌then
 use Rattle.std.specs.List.{flat_map, zip}
 use Rattle.std.specs.Int.{int_div_euclid}
 use Rattle.std.specs.Ordering.{int_eq}
-use Rattle.fd_kinds.specs.declared.kinds.Pair.{Pair}
+use Rattle.fd_kinds.specs.declared.pair.Pair.{Pair}
 use Rattle.fd_kinds.specs.declared.row.Row.{Row}
-use Rattle.fd_kinds.specs.declared.raw.RawSeries.{RawSeries}
-use Rattle.fd_kinds.specs.declared.raw.RawBody.{RawBody}
+use Rattle.fd_kinds.specs.declared.body.RawSeries.{RawSeries}
+use Rattle.fd_kinds.specs.declared.body.RawBody.{RawBody}
 use Rattle.fd_kinds.specs.LabelsOf.{labels_of}
 use Rattle.fd_pprof.specs.declared.profile.Profile.{Profile}
 use Rattle.fd_pprof.specs.declared.profile.Sample.{Sample}

@@ -2,7 +2,7 @@ ghost use Rattle.std.specs.Prelude.{◌≡◌, ◌≢◌, ℕ, List, [], ◌∷�
 ghost use Rattle.std.specs.List.{list_all};
 ghost use Rattle.std.specs.Option.{option_or, option_map};
 ghost use Rattle.std.specs.BTreeSet.{contains};
-ghost use Rattle.fd_kinds.specs.declared.kinds.Pair.{Pair};
+ghost use Rattle.fd_kinds.specs.declared.pair.Pair.{Pair};
 ghost use Rattle.fd_lists.specs.Texts.{text_cmp};
 ghost use Rattle.fd_rows.specs.Labels.{is_long, own_refusal, has_label, label_refusal, is_name, series_name};
 ghost use Rattle.fd_rows.specs.Rows.{series_of};

@@ -1,5 +1,5 @@
 use Rattle.std.proofs.Common.{◌≡◌, length}
-use Rattle.fd_kinds.specs.Sorting.{are_sorted}
+use Rattle.fd_kinds.specs.Sortedness.{are_sorted}
 use Rattle.fd_kinds.proofs.batch.are_sorted.Given as goal
 
 abbrev pub decreases-loop-first : goal.decreases-loop-first

@@ -1,6 +1,6 @@
 use Rattle.std.proofs.Common.{◌≡◌, ◌<◌, ◌-◌, ◌∙◌, ◌∷◌, [], ◌++◌, ap, map, drop, get_or, sym, subst, arith, List}
 use Rattle.std.proofs.lemmas.List.{map-append}
-use Rattle.fd_kinds.specs.declared.kinds.Pair.{Pair}
+use Rattle.fd_kinds.specs.declared.pair.Pair.{Pair}
 use Rattle.fd_proto.specs.declared.raw.RawLabel.{RawLabel}
 use Rattle.fd_pprof.specs.Profile.{pair_of}
 use Rattle.fd_pprof.specs.Winners.{AreSeen, AreWinners}

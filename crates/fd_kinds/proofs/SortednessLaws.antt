@@ -1,11 +1,11 @@
 -- Rows are sorted exactly where each stands right before the next.
-use Rattle.std.specs.Prelude.{◌≡◌, ℕ, zero, suc, ◌+◌, ◌<◌, Bool, true, false, not, ◌&&◌, List, [], ◌∷◌, length, slice_index_or, IsSorted, refl}
+use Rattle.std.specs.Prelude.{◌≡◌, ℕ, zero, suc, ◌+◌, Bool, true, false, not, List, [], ◌∷◌, slice_index_or, IsSorted, refl}
 use Rattle.std.specs.Ordering.{is_lt}
 use Rattle.std.proofs.Common.{arith, ap, sym, ◌∙◌, subst, true≢false}
 use Rattle.std.proofs.lemmas.Bool.{and_from, and_parts}
 use Rattle.fd_kinds.specs.declared.row.Row.{Row}
 use Rattle.fd_kinds.specs.RowOrder.{row_cmp}
-use Rattle.fd_kinds.specs.Sorting.{is_in_front, are_sorted}
+use Rattle.fd_kinds.specs.Sortedness.{is_in_front, are_sorted}
 
 not_so : (b : Bool) → not b ≡ true → b ≡ false
 not_so true e = absurd (true≢false (sym e))
