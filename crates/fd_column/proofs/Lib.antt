@@ -1,0 +1,13 @@
+pub mod CellLaws
+pub mod ColumnDictionaries
+pub mod ColumnNames
+pub mod EqualLabels
+pub mod LabelColumns
+pub mod LabelGrowth
+pub mod LabelPlaces
+pub mod NameLaws
+pub mod NumberLaws
+pub mod RowLabels
+pub mod StackLaws
+pub mod Steps
+pub mod TableLaws

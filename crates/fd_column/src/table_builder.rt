@@ -121,22 +121,38 @@ fn finished_kinds(kinds: Kinds<DictionaryBuilder>) -> Kinds<Dictionary>
     }
 }
 
+/// Both groups of columns of labels as they stand.
+fn finished_labels(
+    labels: Items<LabelColumn<DictionaryBuilder>>,
+    pprof_labels: Items<LabelColumn<DictionaryBuilder>>,
+) -> Result<
+    (
+        Items<LabelColumn<Dictionary>>,
+        Items<LabelColumn<Dictionary>>,
+    ),
+    NoMemory,
+>
+    ensures labels { IfOk result (λ done. done.0 ≡ labels) }
+    ensures pprof_labels { IfOk result (λ done. done.1 ≡ pprof_labels) }
+{
+    let labels = finished(labels)?;
+    let pprof_labels = finished(pprof_labels)?;
+    Ok((labels, pprof_labels))
+}
+
 /// The columns as they stand.
 pub fn finished_table(table: Table<DictionaryBuilder>) -> Result<Table<Dictionary>, NoMemory>
     ensures { IfOk result (λ done. done ≡ table) }
 {
-    let mut table = table;
-    let alloc = table.numbers.allocator();
-    let labels = finished(mem::replace(&mut table.labels, Items::new(alloc)))?;
-    let pprof_labels = finished(mem::replace(&mut table.pprof_labels, Items::new(alloc)))?;
     let Table {
         numbers,
         kinds,
-        labels: _,
+        labels,
         stacks,
-        pprof_labels: _,
+        pprof_labels,
         wholes,
     } = table;
+    let (labels, pprof_labels) = finished_labels(labels, pprof_labels)?;
     Ok(Table {
         numbers,
         kinds: finished_kinds(kinds),

@@ -1,0 +1,2 @@
+pub mod MergeOrder
+pub mod Remainders
