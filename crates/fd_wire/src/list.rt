@@ -1,6 +1,6 @@
 ghost use Rattle.std.specs.Prelude.{◌≡◌, List, Ok, ◌≤◌, length, slice_range, All, IfOk};
 ghost use Rattle.fd_wire.specs.declared.field.Field.{Field};
-ghost use Rattle.fd_wire.specs.Spelling.{Spells};
+ghost use Rattle.fd_wire.specs.Grammar.{Spells};
 ghost use Rattle.fd_wire.specs.Fields.{IsWithin, Gives, fields_at, varints_at};
 
 use crate::field::field_of;
@@ -37,7 +37,8 @@ pub fn fields(alloc: Global, bytes: &[u8], start: usize, end: usize) -> Result<F
     // What is read is spelled so.
     ensures found { IfOk result (Spells start (slice_range bytes.now start end)) }
     // What is spelled so is read, unless memory runs out.
-    ensures only { (fs : List Field) → Spells start (slice_range bytes.now start end) fs → Gives result (Ok fs) }
+    ensures only { (fs : List Field)
+        → Spells start (slice_range bytes.now start end) fs → Gives result (Ok fs) }
     // Which fault it is.
     ensures exact { Gives result (fields_at start (slice_range bytes.now start end)) }
     ensures within { IfOk result (All (IsWithin (length bytes.now))) }
