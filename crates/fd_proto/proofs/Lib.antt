@@ -1,2 +1,2 @@
-pub mod Joined
-pub mod Pushed
+pub mod IndexLists
+pub mod Pushes

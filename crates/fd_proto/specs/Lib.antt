@@ -3,4 +3,4 @@ pub mod Indexes
 pub mod Messages
 pub mod Raw
 pub mod Shape
-pub mod Walk
+pub mod MessageShapes

@@ -37,7 +37,7 @@ location = messages 4 nothing nothing
 abbrev pub function : Shape
 function = index 2 (index 3 (index 4 nothing))
 
-abbrev pub profile : Shape
+unfoldable pub profile : Shape
 profile =
     messages 1 value_type (messages 2 sample (messages 3 mapping (messages 4 location (messages 5 function
     (index 7 (index 8 (message 11 value_type (indexes 13 (index 14 nothing)))))))))

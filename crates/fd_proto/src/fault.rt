@@ -1,4 +1,6 @@
 use fd_lists::NoMemory;
+use std::error::Error;
+use std::fmt;
 
 /// Why bytes can't be read as a profile's messages.
 #[derive(Clone, Copy, Debug, PartialEq, Eq)]
@@ -7,6 +9,17 @@ pub enum ProtoFault {
     Wire { at: usize },
     NoMemory,
 }
+
+impl fmt::Display for ProtoFault {
+    fn fmt<W: fmt::Write>(&self, f: &mut fmt::Formatter<W>) -> fmt::Result {
+        match self {
+            ProtoFault::Wire { at } => write!(f, "the wire format fails at byte {at}"),
+            ProtoFault::NoMemory => write!(f, "out of memory"),
+        }
+    }
+}
+
+impl Error for ProtoFault {}
 
 impl From<NoMemory> for ProtoFault {
     ghost use Rattle.std.specs.Prelude.{◌≡◌};

@@ -1,7 +1,7 @@
 ghost use Rattle.std.specs.Prelude.{◌≡◌, ◌≤◌, length, IfOk, All};
 ghost use Rattle.fd_wire.specs.Fields.{IsWithin};
 ghost use Rattle.fd_proto.specs.Shape.{flaw_between, first_flaw, value_flaw, packed_flaw};
-ghost use Rattle.fd_proto.specs.Walk.{shape_of, IsFlawAt};
+ghost use Rattle.fd_proto.specs.MessageShapes.{shape_of, IsFlawAt};
 
 use crate::message::{Holds, Message, held_in};
 use fd_lists::NoMemory;
@@ -34,6 +34,7 @@ fn packed(alloc: Global, bytes: &[u8], start: usize, end: usize) -> Result<Optio
 
 /// The first flaw of the message between these places.
 #[cycle(flaws)]
+#[tactic(auto, unfolding(crate::specs::Shape::profile))]
 pub(crate) fn flaw(
     alloc: Global,
     bytes: &[u8],
@@ -55,6 +56,7 @@ pub(crate) fn flaw(
 }
 
 #[cycle(flaws)]
+#[tactic(auto, unfolding(crate::specs::Shape::profile))]
 fn first_flaw(
     alloc: Global,
     bytes: &[u8],
@@ -62,7 +64,8 @@ fn first_flaw(
     list: &[Field],
 ) -> Result<Option<usize>, NoMemory>
     requires { All (IsWithin (length bytes.now)) list.now }
-    ensures { IfOk result (λ flaw. flaw ≡ first_flaw (value_flaw bytes.now (shape_of message)) list.now) }
+    ensures { IfOk result (λ flaw.
+        flaw ≡ first_flaw (value_flaw bytes.now (shape_of message)) list.now) }
 {
     for field in list {
         if let Some(at) = flaw_in(alloc, bytes, message, *field)? {
@@ -73,6 +76,7 @@ fn first_flaw(
 }
 
 #[cycle(flaws)]
+#[tactic(auto, unfolding(crate::specs::Shape::profile))]
 fn flaw_in(
     alloc: Global,
     bytes: &[u8],

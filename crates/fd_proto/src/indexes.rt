@@ -5,7 +5,7 @@ ghost use Rattle.fd_proto.specs.Messages.{whole, wholes, parts, part};
 ghost use Rattle.fd_proto.specs.Shape.{text_indexes, sample, profile};
 ghost use Rattle.fd_proto.specs.Indexes.{first_indexes, last_indexes};
 
-use crate::holding::{append, parts, whole};
+use crate::contents::{append, parts, whole};
 use fd_lists::{Items, NoMemory};
 use fd_wire::{Field, FieldList, Varints};
 use std::alloc::Global;
@@ -21,7 +21,8 @@ fn add_of(list: &[Field], numbers: &[u32], all: &mut Varints) -> Result<(), NoMe
 }
 
 fn add_of_each(parts: &[FieldList], numbers: &[u32], all: &mut Varints) -> Result<(), NoMemory>
-    ensures { OnOk result (all.new ≡ all.old ++ flat_map (λ list. map (λ k. whole k list) numbers.now) parts.now) }
+    ensures { OnOk result (all.new
+        ≡ all.old ++ flat_map (λ list. map (λ k. whole k list) numbers.now) parts.now) }
 {
     for part in parts {
         add_of(part.as_slice(), numbers, all)?;
@@ -49,7 +50,8 @@ fn add_of_samples(
     all: &mut Varints,
 ) -> Result<(), NoMemory>
     requires { All (All (IsWithin (length bytes.now))) samples.now }
-    ensures { OnOk result (all.new ≡ all.old ++ flat_map (text_indexes bytes.now sample) samples.now) }
+    ensures { OnOk result (all.new
+        ≡ all.old ++ flat_map (text_indexes bytes.now sample) samples.now) }
 {
     for part in samples {
         add_of_sample(alloc, bytes, part.as_slice(), all)?;
@@ -75,7 +77,9 @@ fn first_indexes(
     from: &Parts<'_>,
 ) -> Result<(), NoMemory>
     requires { All (All (IsWithin (length bytes.now))) from.now.samples.now }
-    ensures { OnOk result (all.new ≡ all.old ++ first_indexes bytes.now from.now.types.now from.now.samples.now from.now.mappings.now from.now.functions.now) }
+    ensures { OnOk result (all.new ≡ all.old
+        ++ first_indexes bytes.now from.now.types.now from.now.samples.now
+        from.now.mappings.now from.now.functions.now) }
 {
     add_of_each(from.types, &[1, 2], all)?;
     add_of_samples(alloc, bytes, from.samples, all)?;
@@ -84,7 +88,8 @@ fn first_indexes(
 }
 
 fn last_indexes(list: &[Field], all: &mut Varints, from: &Parts<'_>) -> Result<(), NoMemory>
-    ensures { OnOk result (all.new ≡ all.old ++ last_indexes list.now from.now.period.now from.now.comments.now) }
+    ensures { OnOk result (all.new
+        ≡ all.old ++ last_indexes list.now from.now.period.now from.now.comments.now) }
 {
     add_of(list, &[7, 8], all)?;
     add_of(from.period, &[1, 2], all)?;
@@ -93,7 +98,7 @@ fn last_indexes(list: &[Field], all: &mut Varints, from: &Parts<'_>) -> Result<(
 }
 
 /// The text indexes of a profile, whose parts are given.
-#[tactic(auto, using(crate::proofs::Joined::indexes_joined))]
+#[tactic(auto, using(crate::proofs::IndexLists::indexes_joined))]
 pub(crate) fn indexes(
     alloc: Global,
     bytes: &[u8],

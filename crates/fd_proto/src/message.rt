@@ -1,7 +1,7 @@
 ghost use Rattle.std.specs.Prelude.{◌≡◌, ◌<◌, ℕ, List};
 ghost use Rattle.fd_wire.specs.declared.field.WireValue.{WireValue};
 ghost use Rattle.fd_proto.specs.Shape.{value_flaw};
-ghost use Rattle.fd_proto.specs.Walk.{shape_of, held_flaw, IsAbove};
+ghost use Rattle.fd_proto.specs.MessageShapes.{shape_of, held_flaw, IsAbove};
 
 /// The messages of a profile.
 #[derive(Clone, Copy, Debug, PartialEq, Eq)]
@@ -24,10 +24,12 @@ pub(crate) enum Holds {
     Part(Message),
 }
 
+#[tactic(auto, unfolding(crate::specs::Shape::profile))]
 /// What the fields of a number hold in a message.
 pub(crate) fn held_in(message: Message, number: u32) -> Holds
     ensures flaw { (bytes : List ℕ) (value : WireValue) →
-        value_flaw bytes (shape_of message) (record { number = number; value = value }) ≡ held_flaw bytes value result }
+        value_flaw bytes (shape_of message) (record { number = number; value = value })
+        ≡ held_flaw bytes value result }
     ensures inner { IsAbove message result }
 {
     match (message, number) {

@@ -1,6 +1,6 @@
 use Rattle.std.proofs.Common.{◌≡◌, ◌+◌, ◌*◌, drop}
 use Rattle.fd_proto.specs.Shape.{first_flaw, value_flaw}
-use Rattle.fd_proto.specs.Walk.{shape_of, depth}
+use Rattle.fd_proto.specs.MessageShapes.{shape_of, depth}
 use Rattle.fd_proto.proofs.flaws.+flaws.Given as goal
 
 abbrev pub decreases-first_flaw : goal.decreases-first_flaw

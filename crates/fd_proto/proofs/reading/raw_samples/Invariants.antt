@@ -1,6 +1,0 @@
-use Rattle.std.proofs.Common.{◌≡◌, take, map}
-use Rattle.fd_proto.specs.Raw.{raw_sample}
-use Rattle.fd_proto.proofs.reading.raw_samples.Given as goal
-
-abbrev pub invariant-loop-part : goal.invariant-loop-part
-invariant-loop-part l = l.all ≡ map (raw_sample l.bytes) (take l.part-index l.parts)
