@@ -1,4 +1,4 @@
-ghost use Rattle.std.specs.Prelude.{◌≡◌, [], ◌↔◌, Contains, IsOk, IfOk, ◌⊎◌, ◌<◌, length, Some};
+ghost use Rattle.std.specs.Prelude.{◌≡◌, [], ◌↔◌, Contains, IsOk, IfOk, ◌⊎◌, ◌<◌, ◌≤◌, length, Some};
 ghost use Rattle.fd_device.specs.Causes.{Rose, next_count};
 ghost use Rattle.fd_device.specs.Streams.{FitsPiece, TakesBytes, TakenCause, PutsBytes, PutCause};
 
@@ -24,7 +24,12 @@ impl Model for MemSource {
 
     ghost Value = { Fed };
 
-    ghost view = { λ s. record { left = drop s.place s.bytes; fails = s.schedule.fails; calls = s.schedule.calls; faults = s.schedule.faults } };
+    ghost view = { λ s. record {
+      left = drop s.place s.bytes;
+      fails = s.schedule.fails;
+      calls = s.schedule.calls;
+      faults = s.schedule.faults;
+    } };
 
     ghost invariant = { λ s. s.place ≤ length s.bytes };
 }
@@ -56,7 +61,8 @@ impl Source for MemSource {
         ensures bound { FitsPiece result piece.new }
         ensures bytes { TakesBytes (Some self.old.left) (Some self.new.left) result piece.new }
         ensures cause { TakenCause self.old.faults self.new.faults result }
-        ensures listed { (result ≡ Taken.Failed) ↔ Contains self.old.fails (next_count self.old.calls) }
+        ensures listed { (result ≡ Taken.Failed)
+            ↔ Contains self.old.fails (next_count self.old.calls) }
         ensures calls { self.new.calls ≡ next_count self.old.calls }
         ensures fails { self.new.fails ≡ self.old.fails }
     {
@@ -83,7 +89,13 @@ impl Model for MemSink {
 
     ghost Value = { Filled };
 
-    ghost view = { λ s. record { taken = s.taken; fails = s.schedule.fails; calls = s.schedule.calls; faults = s.schedule.faults; starved = s.starved } };
+    ghost view = { λ s. record {
+      taken = s.taken;
+      fails = s.schedule.fails;
+      calls = s.schedule.calls;
+      faults = s.schedule.faults;
+      starved = s.starved;
+    } };
 }
 
 impl MemSink {
@@ -127,7 +139,15 @@ impl Sink for MemSink {
         ensures bytes { PutsBytes (Some self.old.taken) (Some self.new.taken) result piece.now }
         ensures cause { PutCause self.old.faults self.new.faults result }
         ensures listed { Contains self.old.fails (next_count self.old.calls) → result ≡ Put.Failed }
-        ensures starved { result ≡ Put.Failed → Contains self.old.fails (next_count self.old.calls) ⊎ Rose self.old.starved self.new.starved }
+        ensures starved { result ≡ Put.Failed
+            → Contains self.old.fails (next_count self.old.calls)
+            ⊎ Rose self.old.starved self.new.starved }
+        ensures done { result ≡ Put.Done → self.new.starved ≡ self.old.starved }
+
+        // A listed failure is no want of memory.
+        ensures listed_only { Contains self.old.fails (next_count self.old.calls)
+            → self.new.starved ≡ self.old.starved }
+        ensures grows { self.old.starved ≤ self.new.starved }
         ensures calls { self.new.calls ≡ next_count self.old.calls }
         ensures fails { self.new.fails ≡ self.old.fails }
     {

@@ -10,7 +10,7 @@ pub enum Put {
     Failed,
 }
 
-/// Takes bytes in order.
+/// Takes bytes in order. A caller must not write a piece again that failed: a prefix of it stands.
 pub trait Sink {
     /// The bytes taken, where they are told.
     ghost taken: { Self → Option (List ℕ) };

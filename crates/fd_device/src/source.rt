@@ -10,7 +10,8 @@ pub enum Taken {
     Failed,
 }
 
-/// Gives bytes in order.
+/// Gives bytes in order. A caller must not read again after the end: what a reader gives then is
+/// not told.
 pub trait Source {
     /// The bytes left, where they are told.
     ghost left: { Self → Option (List ℕ) };

@@ -5,7 +5,9 @@ ghost use Rattle.fd_device.specs.Causes.{Rose};
 use crate::{Put, Sink, Source, Taken};
 use std::io::{ErrorKind, Read, Write};
 
-/// A source over any reader. An interrupted read is tried again; any other error is a failure.
+/// A source over any reader. An interrupted read is tried again; any other error is a failure, of
+/// which the count of faults alone tells. A caller must not read on after a failure and take what
+/// comes for what follows: a reader may have lost bytes with its error.
 #[derive(Drop)]
 pub struct StdSource<T> {
     reader: T,
@@ -43,8 +45,9 @@ impl<T: Read> Source for StdSource<T> {
     }
 }
 
-/// A sink over any writer. An interrupted write is tried again; any other error is a failure, and
-/// so is a writer that takes no more bytes.
+/// A sink over any writer. An interrupted write is tried again, and a writer that takes fewer bytes
+/// is given the rest; any other error is a failure, and so is a writer that takes no more bytes. A
+/// caller must not write a piece again that failed: a front of it may have been taken.
 #[derive(Drop)]
 pub struct StdSink<T> {
     writer: T,
@@ -75,7 +78,8 @@ impl<T: Write> StdSink<T> {
 /// Writes some of the bytes, one at least, or fails.
 fn write_some<T: Write>(writer: &mut T, rest: &[u8]) -> Option<usize>
     ensures bound { IfSome result (λ n. n ≤ length rest.now) }
-    ensures some { IfSome result (λ n. Appends (T.contents writer.old) (T.contents writer.new) (take n rest.now)) }
+    ensures some { IfSome result (λ n.
+        Appends (T.contents writer.old) (T.contents writer.new) (take n rest.now)) }
     ensures none { IfNone result (Keeps (T.contents writer.old) (T.contents writer.new)) }
 {
     for _ in 0..u64::MAX {
