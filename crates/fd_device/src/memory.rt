@@ -1,4 +1,5 @@
-ghost use Rattle.std.specs.Prelude.{◌≡◌, [], ◌↔◌, Contains, IsOk, IfOk, ◌⊎◌, ◌<◌, ◌≤◌, length, Some};
+ghost use Rattle.std.specs.Prelude.{◌≡◌, [], ◌↔◌, Contains, IsOk, IfOk, ◌⊎◌, ◌<◌, ◌≤◌};
+ghost use Rattle.std.specs.Prelude.{length, Some};
 ghost use Rattle.fd_device.specs.Causes.{Rose, next_count};
 ghost use Rattle.fd_device.specs.Streams.{FitsPiece, TakesBytes, TakenCause, PutsBytes, PutCause};
 
