@@ -1,8 +1,8 @@
-pub mod Finding
+pub mod FirstItems
 pub mod Hex
-pub mod Places
-pub mod Refused
+pub mod IdPlaces
+pub mod Refusals
 pub mod SizeSteps
 pub mod TextNumbers
 pub mod Utf8
-pub mod Winning
+pub mod WinnerSteps

@@ -6,6 +6,7 @@ use Rattle.fd_proto.specs.declared.raw.Raw.{Raw}
 use Rattle.fd_proto.specs.Messages.{text_in}
 use Rattle.fd_pprof.specs.declared.fault.ProfileFault.{ProfileFault}
 use Rattle.fd_pprof.specs.declared.fault.ProfileFault.TheVariants.{StringZero, StringIndex, ValueCount, UnknownLocation, UnknownMapping, UnknownFunction, RepeatedId}
+use Rattle.fd_pprof.specs.declared.limits.TheConstants.{MOST_TEXT_BYTES, MOST_STACK_BYTES}
 use Rattle.fd_pprof.specs.Ids.{is_unknown, has_repeats}
 
 abbrev pub location_ids : Raw → List ℕ
@@ -23,16 +24,12 @@ abbrev pub begins_empty : List (List ℕ) → Bool
 begins_empty [] = false
 begins_empty (t ∷ ts) = length t == 0
 
--- the bytes that a text, and that the frames of one stack may have
-abbrev pub LIMIT : ℕ
-LIMIT = 1048576
-
--- a frame counts its bytes and four more
+-- the frames of a sample have more bytes than they may, where each counts its bytes and four more
 abbrev pub is_too_deep : List (List ℕ) → Bool
-is_too_deep frames = nat_lt LIMIT (sum_by text_size frames)
+is_too_deep frames = nat_lt MOST_STACK_BYTES (sum_by text_size frames)
 
 abbrev pub is_too_long : List ℕ → Bool
-is_too_long t = nat_lt LIMIT (length t)
+is_too_long t = nat_lt MOST_TEXT_BYTES (length t)
 
 -- the conditions of a profile whose texts need not be UTF-8 yet
 unfoldable pub plain_conditions : List (List ℕ) → Raw → List (Bool × ProfileFault)

@@ -5,9 +5,9 @@ ghost use Rattle.fd_pprof.specs.Conditions.{plain_conditions, texts, begins_empt
 ghost use Rattle.fd_pprof.specs.Profile.{first_of};
 
 use crate::ProfileFault;
+use crate::catalog::Catalog;
 use crate::index::Index;
-use crate::indexed::Indexed;
-use crate::texts::bytes_of;
+use crate::texts::text_bytes;
 use fd_proto::{Raw, RawLocation, RawSample};
 
 /// The first text is there, and is empty.
@@ -16,7 +16,7 @@ fn begins_empty(bytes: &[u8], raw: &Raw) -> bool
 {
     match raw.texts.as_slice() {
         [] => false,
-        [first, ..] => bytes_of(bytes, *first).is_empty(),
+        [first, ..] => text_bytes(bytes, *first).is_empty(),
     }
 }
 
@@ -30,7 +30,8 @@ fn has_bad_index(raw: &Raw) -> bool
 
 /// Some sample has another number of values than there are sample types.
 fn has_other_count(raw: &Raw) -> bool
-    ensures { result ≡ list_any (λ s. not (length s.values == length raw.now.sample_types)) raw.now.samples }
+    ensures { result
+        ≡ list_any (λ s. not (length s.values == length raw.now.sample_types)) raw.now.samples }
 {
     let types = raw.sample_types.len();
     raw.samples
@@ -40,7 +41,8 @@ fn has_other_count(raw: &Raw) -> bool
 }
 
 fn names_unknown(sample: &RawSample, locations: &Index) -> bool
-    ensures { result ≡ list_any (λ id. (id == 0) || is_unknown locations.now.ids id) sample.now.locations }
+    ensures { result
+        ≡ list_any (λ id. (id == 0) || is_unknown locations.now.ids id) sample.now.locations }
 {
     sample
         .locations
@@ -51,7 +53,9 @@ fn names_unknown(sample: &RawSample, locations: &Index) -> bool
 
 /// Some sample names no location.
 fn has_unknown_location(raw: &Raw, locations: &Index) -> bool
-    ensures { result ≡ list_any (λ s. list_any (λ id. (id == 0) || is_unknown locations.now.ids id) s.locations) raw.now.samples }
+    ensures { result ≡ list_any
+        (λ s. list_any (λ id. (id == 0) || is_unknown locations.now.ids id) s.locations)
+        raw.now.samples }
 {
     raw.samples
         .as_slice()
@@ -81,7 +85,8 @@ fn has_unknown_line(location: &RawLocation, functions: &Index) -> bool
 
 /// Some line names no function.
 fn has_unknown_function(raw: &Raw, functions: &Index) -> bool
-    ensures { result ≡ list_any (λ l. list_any (is_unknown functions.now.ids) l.lines) raw.now.locations }
+    ensures { result
+        ≡ list_any (λ l. list_any (is_unknown functions.now.ids) l.lines) raw.now.locations }
 {
     raw.locations
         .as_slice()
@@ -90,7 +95,8 @@ fn has_unknown_function(raw: &Raw, functions: &Index) -> bool
 }
 
 fn has_repeated_id(mappings: &Index, locations: &Index, functions: &Index) -> bool
-    ensures { result ≡ ((has_repeats mappings.now.ids || has_repeats locations.now.ids) || has_repeats functions.now.ids) }
+    ensures { result ≡ ((has_repeats mappings.now.ids || has_repeats locations.now.ids)
+        || has_repeats functions.now.ids) }
 {
     mappings.repeats || locations.repeats || functions.repeats
 }
@@ -108,7 +114,7 @@ fn first_of(checks: &[(bool, ProfileFault)]) -> Option<ProfileFault>
 }
 
 /// The refusals for which the texts need not be read.
-pub(crate) fn plain_refusal(bytes: &[u8], of: &Indexed) -> Option<ProfileFault>
+pub(crate) fn plain_refusal(bytes: &[u8], of: &Catalog) -> Option<ProfileFault>
     ensures { result ≡ first_of (plain_conditions (texts bytes.now of.now.raw) of.now.raw) }
 {
     let raw = &of.raw;

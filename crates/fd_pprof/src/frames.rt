@@ -1,9 +1,10 @@
 ghost use Rattle.std.specs.Prelude.{◌≡◌, ◌++◌, ◌<◌, ◌==◌, [], length, IfOk, OnOk, find, slice_get};
 ghost use Rattle.std.specs.String.{string_bytes};
 ghost use Rattle.std.specs.Option.{option_copied, unwrap_or};
-ghost use Rattle.fd_pprof.specs.Frames.{hex_digit, hex_digits, hex_text, name_of, frame, location_frames, stack};
+ghost use Rattle.fd_pprof.specs.Frames.{hex_digit, hex_digits, hex_text, name_of, frame};
+ghost use Rattle.fd_pprof.specs.Frames.{location_frames, stack};
 
-use crate::indexed::Indexed;
+use crate::catalog::Catalog;
 use fd_kinds::{Items, NoMemory, Share, Stack, Text, Texts};
 use fd_proto::{RawLocation, RawSample};
 use std::alloc::Global;
@@ -43,8 +44,9 @@ fn address_text(alloc: Global, address: u64) -> Result<Text, NoMemory>
 }
 
 /// The name of a function, and none where it has no text.
-pub(crate) fn name_of<'a>(of: &Indexed, texts: &'a Texts, id: u64) -> Option<&'a Text>
-    ensures { unwrap_or (option_copied result) [] ≡ name_of texts.now (find (λ f. f.id == id) of.now.raw.functions) }
+pub(crate) fn name_of<'a>(of: &Catalog, texts: &'a Texts, id: u64) -> Option<&'a Text>
+    ensures { unwrap_or (option_copied result) []
+        ≡ name_of texts.now (find (λ f. f.id == id) of.now.raw.functions) }
 {
     match of.function(id) {
         Some(function) => texts.get(function.name as usize),
@@ -55,7 +57,7 @@ pub(crate) fn name_of<'a>(of: &Indexed, texts: &'a Texts, id: u64) -> Option<&'a
 /// The frame of a line that names the function `id`.
 fn frame(
     alloc: Global,
-    of: &Indexed,
+    of: &Catalog,
     texts: &Texts,
     address: u64,
     id: u64,
@@ -74,7 +76,7 @@ fn frame(
 /// Adds a frame for each line, or one for a location without lines.
 fn add_frames(
     alloc: Global,
-    of: &Indexed,
+    of: &Catalog,
     texts: &Texts,
     location: &RawLocation,
     all: &mut Stack,
@@ -93,7 +95,7 @@ fn add_frames(
 /// The frames of a sample, the leaf first.
 pub(crate) fn stack_of(
     alloc: Global,
-    of: &Indexed,
+    of: &Catalog,
     texts: &Texts,
     sample: &RawSample,
 ) -> Result<Stack, NoMemory>

@@ -17,7 +17,8 @@ pub(crate) struct Places {
 }
 
 pub(crate) fn places_of(alloc: Global, ids: &[u64]) -> Result<Places, NoMemory>
-    ensures first { IfOk result (λ places. (id : ℕ) → get nat_cmp places.map id ≡ position_from (λ other. other == id) 0 ids.now) }
+    ensures first { IfOk result (λ places. (id : ℕ)
+        → get nat_cmp places.map id ≡ position_from (λ other. other == id) 0 ids.now) }
     ensures repeats { IfOk result (λ places. places.repeats ≡ has_repeats ids.now) }
 {
     let mut map = BTreeMap::new(alloc);

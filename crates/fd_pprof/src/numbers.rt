@@ -9,7 +9,8 @@ use std::collections::BTreeMap;
 
 /// The first place of each text.
 fn text_places(alloc: Global, texts: &[Text]) -> Result<BTreeMap<Text, usize>, NoMemory>
-    ensures { IfOk result (λ places. (text : List ℕ) → get text_cmp places text ≡ place_from 0 texts.now text) }
+    ensures { IfOk result (λ places. (text : List ℕ)
+        → get text_cmp places text ≡ place_from 0 texts.now text) }
 {
     let mut places = BTreeMap::new(alloc);
     let mut i = texts.len();

@@ -43,9 +43,11 @@ fn is_kept(texts: &Texts, label: RawLabel) -> bool
 /// Whether a label counts in front of labels whose keys are `seen`; its key is seen from then on.
 fn wins(seen: &mut BTreeSet<usize>, tables: &Tables, label: RawLabel) -> Result<bool, NoMemory>
     ensures wins { IfOk result (λ won. (behind : List Pair)
-        → AreSeen tables.now.texts behind seen.old → won ≡ wins behind (pair_of tables.now.texts label)) }
+        → AreSeen tables.now.texts behind seen.old
+        → won ≡ wins behind (pair_of tables.now.texts label)) }
     ensures seen { IfOk result (λ won. (behind : List Pair)
-        → AreSeen tables.now.texts behind seen.old → AreSeen tables.now.texts (pair_of tables.now.texts label ∷ behind) seen.new) }
+        → AreSeen tables.now.texts behind seen.old
+        → AreSeen tables.now.texts (pair_of tables.now.texts label ∷ behind) seen.new) }
 {
     if !is_kept(&tables.texts, label) {
         return Ok(false);
@@ -62,7 +64,8 @@ pub(crate) fn winners(
     tables: &Tables,
     raw: &[RawLabel],
 ) -> Result<Items<RawLabel>, NoMemory>
-    ensures { IfOk result (λ labels. AreWinners (map (pair_of tables.now.texts) labels) (map (pair_of tables.now.texts) raw.now)) }
+    ensures { IfOk result (λ labels. AreWinners
+        (map (pair_of tables.now.texts) labels) (map (pair_of tables.now.texts) raw.now)) }
 {
     let mut labels = Items::new(alloc);
     let mut seen = BTreeSet::new(alloc);
@@ -101,7 +104,9 @@ fn size_of(texts: &Texts, labels: &[RawLabel]) -> u64
 
 /// The bytes of the labels of a sample.
 pub(crate) fn labels_size(alloc: Global, tables: &Tables, raw: &[RawLabel]) -> Result<u64, NoMemory>
-    ensures { IfOk result (λ n. n ≡ min (sum_by pair_size (labels_of (map (pair_of tables.now.texts) raw.now)).pairs) (2 ^ 64 - 1)) }
+    ensures { IfOk result (λ n. n ≡ min
+        (sum_by pair_size (labels_of (map (pair_of tables.now.texts) raw.now)).pairs)
+        (2 ^ 64 - 1)) }
 {
     let labels = winners(alloc, tables, raw)?;
     Ok(size_of(&tables.texts, labels.as_slice()))

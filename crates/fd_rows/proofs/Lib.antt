@@ -1,3 +1,3 @@
-pub mod Gathering
-pub mod Refused
-pub mod Seen
+pub mod RowSteps
+pub mod Refusals
+pub mod LabelSteps

@@ -12,12 +12,13 @@ use Rattle.fd_pprof.specs.Profile.{profile_refusal}
 use Rattle.fd_rows.specs.declared.series.Series.{Series}
 use Rattle.fd_rows.specs.declared.faults.BatchFault.{BatchFault}
 use Rattle.fd_rows.specs.declared.faults.BatchFault.TheVariants as fault
+use Rattle.fd_rows.specs.declared.limits.TheConstants.{MOST_BODY_ROW_BYTES}
 use Rattle.fd_rows.specs.Labels.{label_refusal, series_name}
 use Rattle.fd_rows.specs.Rows.{series_of, message_rows, series_rows}
 
 -- the rows have more bytes than those of a body may have
 unfoldable pub is_large : List Row → Bool
-is_large rows = nat_lt 134217728 (sum_by row_size rows)
+is_large rows = nat_lt MOST_BODY_ROW_BYTES (sum_by row_size rows)
 
 -- the refusal of the first label that has one, behind the labels `earlier`
 abbrev pub labels_refusal : ℕ → List Pair → List Pair → Option BatchFault

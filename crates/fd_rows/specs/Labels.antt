@@ -8,11 +8,12 @@ use Rattle.fd_kinds.specs.declared.pair.Pair.{Pair}
 use Rattle.fd_kinds.specs.Names.{is_label_name}
 use Rattle.fd_lists.specs.Texts.{text_cmp}
 use Rattle.fd_rows.specs.declared.faults.LabelFault.{LabelFault}
+use Rattle.fd_rows.specs.declared.limits.TheConstants.{MOST_LABEL_BYTES}
 use Rattle.fd_rows.specs.declared.faults.LabelFault.TheVariants.{BadLabelName, LongValue, RepeatedLabel}
 
 -- more bytes than a name or a value may have
 abbrev pub is_long : List ℕ → Bool
-is_long text = nat_lt 4096 (length text)
+is_long text = nat_lt MOST_LABEL_BYTES (length text)
 
 -- some of the labels has the name
 abbrev pub has_label : List Pair → List ℕ → Bool

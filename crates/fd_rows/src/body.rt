@@ -1,38 +1,41 @@
-ghost use Rattle.std.specs.Prelude.{◌≡◌, ◌≢◌, ◌≤◌, ◌++◌, [], None, Some, IfOk, IfErr, IsPermutation, sum_by};
+ghost use Rattle.std.specs.Prelude.{◌≡◌, ◌≢◌, ◌≤◌, ◌++◌, [], None, Some, IfOk, IfErr};
+ghost use Rattle.std.specs.Prelude.{IsPermutation, sum_by};
 ghost use Rattle.fd_kinds.specs.RowSize.{row_size};
 ghost use Rattle.fd_rows.specs.Rows.{series_rows, body_rows};
 ghost use Rattle.fd_rows.specs.Body.{series_refusal, body_refusal};
 
 use crate::BatchFault;
+use crate::bounded_rows::BoundedRows;
 use crate::checks::checked;
-use crate::gathered::Gathered;
-use crate::measured::Measured;
+use crate::limits::MOST_BODY_ROW_BYTES;
 use crate::profiles::with_messages;
-use crate::sorted::sorted;
+use crate::sized_series::SizedSeries;
+use crate::sorter::sorted;
 use fd_kinds::{Batch, Items, RawBody, RawSeries};
 use std::alloc::Global;
 
 /// Adds the rows of the series at the place `at`.
 fn with_series(
     alloc: Global,
-    rows: Gathered,
+    rows: BoundedRows,
     at: u64,
     series: &RawSeries,
-) -> Result<Gathered, BatchFault>
+) -> Result<BoundedRows, BatchFault>
     ensures none { IfOk result (λ _. series_refusal at rows.rows series.now ≡ None) }
     ensures ok { IfOk result (λ more. more.rows ≡ rows.rows ++ series_rows series.now) }
-    ensures err { IfErr result (λ e. e ≢ BatchFault.NoMemory → series_refusal at rows.rows series.now ≡ Some e) }
+    ensures err { IfErr result (λ e. e ≢ BatchFault.NoMemory
+        → series_refusal at rows.rows series.now ≡ Some e) }
 {
     let own = checked(alloc, at, &series.labels)?;
-    let of = Measured::of(alloc, own)?;
+    let of = SizedSeries::of(alloc, own)?;
     with_messages(alloc, rows, at, &of, &series.profiles)
 }
 
 /// No rows.
-fn no_rows(alloc: Global) -> Gathered
+fn no_rows(alloc: Global) -> BoundedRows
     ensures { result.rows ≡ [] }
 {
-    Gathered {
+    BoundedRows {
         rows: Items::new(alloc),
         bytes: 0,
     }
@@ -43,9 +46,10 @@ fn no_rows(alloc: Global) -> Gathered
 /// of its series, and the type, the stack, the labels and the value of its sample; a value 0 has
 /// none. Times are in milliseconds since 1970, rounded down.
 pub fn batch(alloc: Global, body: &RawBody) -> Result<Batch, BatchFault>
-    ensures ok { IfOk result (λ batch. (body_refusal body.now ≡ None) × IsPermutation (body_rows body.now) batch.rows) }
+    ensures ok { IfOk result (λ batch. (body_refusal body.now ≡ None)
+        × IsPermutation (body_rows body.now) batch.rows) }
     ensures err { IfErr result (λ e. e ≢ BatchFault.NoMemory → body_refusal body.now ≡ Some e) }
-    ensures small { IfOk result (λ batch. sum_by row_size batch.rows ≤ 134217728) }
+    ensures small { IfOk result (λ batch. sum_by row_size batch.rows ≤ MOST_BODY_ROW_BYTES) }
 {
     let mut rows = no_rows(alloc);
     for (i, series) in body.series.as_slice().iter().enumerate() {

@@ -1,13 +1,16 @@
-ghost use Rattle.std.specs.Prelude.{◌≡◌, ◌≢◌, ℕ, List, [], ◌∷◌, ◌++◌, not, filter, None, Some, IfOk, IfErr};
+ghost use Rattle.std.specs.Prelude.{◌≡◌, ◌≢◌, ℕ, List, [], ◌∷◌, ◌++◌, not, filter};
+ghost use Rattle.std.specs.Prelude.{None, Some, IfOk, IfErr};
 ghost use Rattle.std.specs.List.{list_all};
 ghost use Rattle.std.specs.Option.{option_or, option_map};
 ghost use Rattle.std.specs.BTreeSet.{contains};
 ghost use Rattle.fd_kinds.specs.declared.pair.Pair.{Pair};
 ghost use Rattle.fd_lists.specs.Texts.{text_cmp};
-ghost use Rattle.fd_rows.specs.Labels.{is_long, own_refusal, has_label, label_refusal, is_name, series_name};
+ghost use Rattle.fd_rows.specs.Labels.{is_long, own_refusal, has_label, label_refusal};
+ghost use Rattle.fd_rows.specs.Labels.{is_name, series_name};
 ghost use Rattle.fd_rows.specs.Rows.{series_of};
 ghost use Rattle.fd_rows.specs.Body.{labels_refusal, name_refusal};
 
+use crate::limits::MOST_LABEL_BYTES;
 use crate::series::Series;
 use crate::{BatchFault, LabelFault};
 use fd_kinds::{Items, Labels, NoMemory, Pair, Pairs, Share, Text, is_label_name};
@@ -17,7 +20,7 @@ use std::collections::BTreeSet;
 fn is_long(text: &Text) -> bool
     ensures { result ≡ is_long text.now }
 {
-    text.len() > 4_096
+    text.len() > MOST_LABEL_BYTES
 }
 
 /// Why a label is refused whose name and value alone are looked at.
@@ -40,7 +43,8 @@ fn label_fault(seen: &mut BTreeSet<Text>, pair: &Pair) -> Result<Option<LabelFau
         → fault ≡ label_refusal earlier pair.now) }
     ensures seen { IfOk result (λ fault. fault ≡ None → (earlier : List Pair)
         → ((name : List ℕ) → contains text_cmp seen.old name ≡ has_label earlier name)
-        → (name : List ℕ) → contains text_cmp seen.new name ≡ has_label (earlier ++ pair.now ∷ []) name) }
+        → (name : List ℕ)
+        → contains text_cmp seen.new name ≡ has_label (earlier ++ pair.now ∷ []) name) }
 {
     if let Some(fault) = own_fault(pair) {
         return Ok(Some(fault));
@@ -52,11 +56,12 @@ fn label_fault(seen: &mut BTreeSet<Text>, pair: &Pair) -> Result<Option<LabelFau
     }
 }
 
-#[tactic(auto, using(crate::proofs::Seen::label_steps))]
+#[tactic(auto, using(crate::proofs::LabelSteps::label_steps))]
 /// Tests the labels of a series in their order.
 fn check_labels(alloc: Global, series: u64, pairs: &Pairs) -> Result<(), BatchFault>
     ensures ok { IfOk result (λ _. labels_refusal series [] pairs.now ≡ None) }
-    ensures err { IfErr result (λ e. e ≢ BatchFault.NoMemory → labels_refusal series [] pairs.now ≡ Some e) }
+    ensures err { IfErr result (λ e. e ≢ BatchFault.NoMemory
+        → labels_refusal series [] pairs.now ≡ Some e) }
 {
     let mut seen = BTreeSet::new(alloc);
     for (i, pair) in pairs.as_slice().iter().enumerate() {
@@ -109,7 +114,8 @@ pub(crate) fn checked(alloc: Global, at: u64, pairs: &Pairs) -> Result<Series, B
     ensures labels { IfOk result (λ _. labels_refusal at [] pairs.now ≡ None) }
     ensures name { IfOk result (λ _. name_refusal at pairs.now ≡ None) }
     ensures ok { IfOk result (λ series. series ≡ series_of pairs.now) }
-    ensures err { IfErr result (λ e. e ≢ BatchFault.NoMemory → option_or (labels_refusal at [] pairs.now) (name_refusal at pairs.now) ≡ Some e) }
+    ensures err { IfErr result (λ e. e ≢ BatchFault.NoMemory
+        → option_or (labels_refusal at [] pairs.now) (name_refusal at pairs.now) ≡ Some e) }
 {
     check_labels(alloc, at, pairs)?;
     let name = name_of(alloc, pairs)?;

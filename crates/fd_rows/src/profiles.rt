@@ -4,15 +4,16 @@ ghost use Rattle.fd_rows.specs.Rows.{message_rows};
 ghost use Rattle.fd_rows.specs.Body.{message_refusal, messages_refusal};
 
 use crate::BatchFault;
-use crate::gathered::{Gathered, with_survey};
-use crate::measured::Measured;
+use crate::bounded_rows::{BoundedRows, with_survey};
+use crate::sized_series::SizedSeries;
 use fd_kinds::BytesList;
 use fd_pprof::{ProfileFault, survey};
 use std::alloc::Global;
 
 fn unread(series: u64, sample: u64, fault: ProfileFault) -> BatchFault
     ensures memory { fault ≡ ProfileFault.NoMemory → result ≡ BatchFault.NoMemory }
-    ensures other { fault ≢ ProfileFault.NoMemory → result ≡ BatchFault.Profile series sample fault }
+    ensures other { fault ≢ ProfileFault.NoMemory
+        → result ≡ BatchFault.Profile series sample fault }
 {
     match fault {
         ProfileFault::NoMemory => BatchFault::NoMemory,
@@ -27,15 +28,18 @@ fn unread(series: u64, sample: u64, fault: ProfileFault) -> BatchFault
 /// Adds the rows of a profile at the place `sample` of the series at the place `at`.
 fn with_message(
     alloc: Global,
-    rows: Gathered,
+    rows: BoundedRows,
     at: u64,
-    of: &Measured,
+    of: &SizedSeries,
     sample: u64,
     bytes: &[u8],
-) -> Result<Gathered, BatchFault>
-    ensures none { IfOk result (λ _. message_refusal at of.now.series sample rows.rows bytes.now ≡ None) }
-    ensures ok { IfOk result (λ more. more.rows ≡ rows.rows ++ message_rows of.now.series bytes.now) }
-    ensures err { IfErr result (λ e. e ≢ BatchFault.NoMemory → message_refusal at of.now.series sample rows.rows bytes.now ≡ Some e) }
+) -> Result<BoundedRows, BatchFault>
+    ensures none { IfOk result (λ _.
+        message_refusal at of.now.series sample rows.rows bytes.now ≡ None) }
+    ensures ok { IfOk result (λ more.
+        more.rows ≡ rows.rows ++ message_rows of.now.series bytes.now) }
+    ensures err { IfErr result (λ e. e ≢ BatchFault.NoMemory
+        → message_refusal at of.now.series sample rows.rows bytes.now ≡ Some e) }
 {
     let survey = match survey(alloc, bytes) {
         Ok(survey) => survey,
@@ -50,14 +54,17 @@ fn with_message(
 /// Adds the rows of the profiles of the series at the place `at`.
 pub(crate) fn with_messages(
     alloc: Global,
-    rows: Gathered,
+    rows: BoundedRows,
     at: u64,
-    of: &Measured,
+    of: &SizedSeries,
     messages: &BytesList,
-) -> Result<Gathered, BatchFault>
-    ensures none { IfOk result (λ _. messages_refusal at of.now.series 0 rows.rows messages.now ≡ None) }
-    ensures ok { IfOk result (λ more. more.rows ≡ rows.rows ++ flat_map (message_rows of.now.series) messages.now) }
-    ensures err { IfErr result (λ e. e ≢ BatchFault.NoMemory → messages_refusal at of.now.series 0 rows.rows messages.now ≡ Some e) }
+) -> Result<BoundedRows, BatchFault>
+    ensures none { IfOk result (λ _.
+        messages_refusal at of.now.series 0 rows.rows messages.now ≡ None) }
+    ensures ok { IfOk result (λ more.
+        more.rows ≡ rows.rows ++ flat_map (message_rows of.now.series) messages.now) }
+    ensures err { IfErr result (λ e. e ≢ BatchFault.NoMemory
+        → messages_refusal at of.now.series 0 rows.rows messages.now ≡ Some e) }
 {
     let mut more = rows;
     for (i, bytes) in messages.as_slice().iter().enumerate() {

@@ -47,7 +47,8 @@ fn with_value(
     kind: usize,
     value: &i64,
 ) -> Result<Rows, NoMemory>
-    ensures { IfOk result (λ more. (t : ValueType) → slice_get survey.now.sample_types kind ≡ Some t → more ≡ rows ++ value_rows series.now survey.now sample.now (t, value.now)) }
+    ensures { IfOk result (λ more. (t : ValueType) → slice_get survey.now.sample_types kind ≡ Some t
+        → more ≡ rows ++ value_rows series.now survey.now sample.now (t, value.now)) }
 {
     let value = *value;
     if value == 0 {
@@ -70,7 +71,8 @@ fn with_kind(
     kind: usize,
 ) -> Result<Rows, NoMemory>
     ensures { IfOk result (λ more. (t : ValueType) → slice_get survey.now.sample_types kind ≡ Some t
-        → more ≡ rows ++ flat_map (value_rows series.now survey.now sample.now) (zip (t ∷ []) (drop kind sample.now.values))) }
+        → more ≡ rows ++ flat_map (value_rows series.now survey.now sample.now)
+        (zip (t ∷ []) (drop kind sample.now.values))) }
 {
     match sample.values.get(kind) {
         Some(value) => with_value(alloc, rows, series, survey, sample, kind, value),
@@ -103,7 +105,8 @@ fn with_sample_at(
     survey: &Survey,
     at: usize,
 ) -> Result<Rows, NoMemory>
-    ensures { IfOk result (λ more. (s : Sample) → slice_get survey.now.samples at ≡ Some s → more ≡ rows ++ sample_rows series.now survey.now s) }
+    ensures { IfOk result (λ more. (s : Sample) → slice_get survey.now.samples at ≡ Some s
+        → more ≡ rows ++ sample_rows series.now survey.now s) }
 {
     if !survey.has_value(at) {
         return Ok(rows);

@@ -5,4 +5,4 @@ use Rattle.fd_pprof.specs.Sizes.{frames_size}
 use Rattle.fd_pprof.proofs.sizes.stack_size.Given as goal
 
 abbrev pub invariant-loop-id : goal.invariant-loop-id
-invariant-loop-id l = l.size ≡ frames_size (flat_map (frames_of l.tables.texts l.tables.indexed.raw) (take l.id-index l.sample.locations))
+invariant-loop-id l = l.size ≡ frames_size (flat_map (frames_of l.tables.texts l.tables.catalog.raw) (take l.id-index l.sample.locations))

@@ -3,7 +3,7 @@ use Rattle.std.specs.Prelude.{sum_by}
 use Rattle.fd_kinds.specs.RowSize.{pair_size}
 use Rattle.fd_proto.specs.declared.raw.RawLabel.{RawLabel}
 use Rattle.fd_pprof.specs.Profile.{pair_of}
-use Rattle.fd_pprof.proofs.Winning.{labels_bytes}
+use Rattle.fd_pprof.proofs.WinnerSteps.{labels_bytes}
 use Rattle.fd_pprof.proofs.winners.labels_size.Goals as goal
 
 pub returns : goal.returns

@@ -4,7 +4,7 @@ use Rattle.fd_kinds.specs.declared.pair.Pair.{Pair}
 use Rattle.fd_proto.specs.declared.raw.RawLabel.{RawLabel}
 use Rattle.fd_pprof.specs.Profile.{pair_of}
 use Rattle.fd_pprof.specs.Winners.{AreSeen, AreWinners}
-use Rattle.fd_pprof.proofs.Winning.{won, lost, one_before}
+use Rattle.fd_pprof.proofs.WinnerSteps.{won, lost, one_before}
 use Rattle.fd_pprof.proofs.winners.winners.Goals as goal
 
 pub loop-i-preserved : goal.loop-i-preserved

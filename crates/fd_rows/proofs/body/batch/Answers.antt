@@ -1,6 +1,6 @@
 use Rattle.std.proofs.Common.{◌≤◌, length, arith}
 use Rattle.std.proofs.lemmas.Result.{err_from_is_err_and}
-use Rattle.fd_rows.proofs.Refused.{body_refused, body_done, batch_small}
+use Rattle.fd_rows.proofs.Refusals.{body_refused, body_done, batch_small}
 use Rattle.fd_rows.proofs.body.batch.Goals as goal
 
 pub returns-in_err-rows-clause-err : goal.returns-in_err-rows-clause-err

@@ -1,6 +1,6 @@
 use Rattle.std.proofs.Common.{◌++◌, ap, ◌∙◌}
 use Rattle.std.proofs.lemmas.Result.{IfOk-weaker, IfErr-weaker, err_from_is_err_and}
-use Rattle.fd_rows.proofs.Refused.{series_first, series_after, series_same}
+use Rattle.fd_rows.proofs.Refusals.{series_first, series_after, series_same}
 use Rattle.fd_rows.proofs.body.with_series.Goals as goal
 
 pub returns-in_err-own-clause-err : goal.returns-in_err-own-clause-err

@@ -1,4 +1,4 @@
-use Rattle.fd_rows.proofs.Seen.{seen_more}
+use Rattle.fd_rows.proofs.LabelSteps.{seen_more}
 use Rattle.fd_rows.proofs.checks.label_fault.Goals as goal
 
 pub returns-then-branch-clause-seen : goal.returns-then-branch-clause-seen

@@ -2,7 +2,7 @@ use Rattle.std.proofs.Common.{◌++◌, ap, sym, ◌∙◌}
 use Rattle.std.proofs.lemmas.List.{append-nil}
 use Rattle.std.proofs.lemmas.Result.{IfOk-weaker}
 use Rattle.fd_rows.specs.Rows.{value_rows}
-use Rattle.fd_rows.proofs.Gathering.{one_value, no_value}
+use Rattle.fd_rows.proofs.RowSteps.{one_value, no_value}
 use Rattle.fd_rows.proofs.rows.with_kind.Goals as goal
 
 pub returns-in-Some : goal.returns-in-Some

@@ -2,7 +2,7 @@ use Rattle.std.proofs.Common.{◌++◌, ◌+◌, ◌<◌, ◌≤◌, length, dro
 use Rattle.std.specs.List.{flat_map}
 use Rattle.std.proofs.lemmas.List.{drop_all, append-nil}
 use Rattle.fd_rows.specs.Rows.{sample_rows, profile_rows}
-use Rattle.fd_rows.proofs.Gathering.{stands, from_slot, more_rows}
+use Rattle.fd_rows.proofs.RowSteps.{stands, from_slot, more_rows}
 use Rattle.fd_rows.proofs.rows.with_rows.Goals as goal
 
 pub loop-at-preserved : goal.loop-at-preserved

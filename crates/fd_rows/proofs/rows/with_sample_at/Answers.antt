@@ -4,7 +4,7 @@ use Rattle.std.specs.List.{list_any}
 use Rattle.std.specs.Ordering.{int_eq}
 use Rattle.std.proofs.lemmas.List.{append-nil}
 use Rattle.fd_pprof.specs.declared.profile.Sample.{Sample}
-use Rattle.fd_rows.proofs.Gathering.{no_rows}
+use Rattle.fd_rows.proofs.RowSteps.{no_rows}
 use Rattle.fd_rows.proofs.rows.with_sample_at.Goals as goal
 
 pub returns-then-not-has_value : goal.returns-then-not-has_value

@@ -3,7 +3,7 @@ use Rattle.std.specs.Prelude.{MatchOption, slice_get}
 use Rattle.fd_pprof.specs.declared.profile.Sample.{Sample}
 use Rattle.fd_rows.specs.Rows.{value_rows}
 use Rattle.fd_rows.specs.Sizes.{with_rows}
-use Rattle.fd_rows.proofs.Gathering.{one_value, no_value, no_bytes}
+use Rattle.fd_rows.proofs.RowSteps.{one_value, no_value, no_bytes}
 use Rattle.fd_rows.proofs.sizes.with_kind.Goals as goal
 
 pub returns-in-Some : goal.returns-in-Some

@@ -3,7 +3,7 @@ use Rattle.std.specs.List.{flat_map}
 use Rattle.std.proofs.lemmas.List.{drop_all}
 use Rattle.fd_rows.specs.Rows.{sample_rows, profile_rows}
 use Rattle.fd_rows.specs.Sizes.{with_rows}
-use Rattle.fd_rows.proofs.Gathering.{stands, from_slot, more_bytes, no_bytes}
+use Rattle.fd_rows.proofs.RowSteps.{stands, from_slot, more_bytes, no_bytes}
 use Rattle.fd_rows.proofs.sizes.with_profile.Goals as goal
 
 pub loop-at-preserved : goal.loop-at-preserved

@@ -2,7 +2,7 @@ use Rattle.std.proofs.Common.{◌++◌, ◌∷◌, [], ◌+◌, ◌-◌, ◌^◌
 use Rattle.std.specs.List.{flat_map, zip}
 use Rattle.fd_rows.specs.Rows.{value_rows, sample_rows}
 use Rattle.fd_rows.specs.Sizes.{with_rows}
-use Rattle.fd_rows.proofs.Gathering.{stands, zip_step, more_bytes, no_bytes, all_taken}
+use Rattle.fd_rows.proofs.RowSteps.{stands, zip_step, more_bytes, no_bytes, all_taken}
 use Rattle.fd_rows.proofs.sizes.with_sample.Goals as goal
 
 pub loop-kind-preserved : goal.loop-kind-preserved

@@ -2,7 +2,7 @@ use Rattle.std.proofs.Common.{rules, ◌≡◌, ◌≤◌, ◌-◌, ◌^◌, ◌
 use Rattle.std.specs.Prelude.{MatchOption}
 use Rattle.fd_pprof.specs.declared.profile.ValueType.{ValueType}
 use Rattle.fd_pprof.specs.Sizes.{type_size}
-use Rattle.fd_rows.proofs.Gathering.{value_none, value_some}
+use Rattle.fd_rows.proofs.RowSteps.{value_none, value_some}
 use Rattle.fd_rows.proofs.sizes.with_value.Goals as goal
 
 pub returns-then-value-eq0 : goal.returns-then-value-eq0

@@ -1,8 +1,0 @@
-use Rattle.std.proofs.Common.{◌∙◌}
-use Rattle.fd_pprof.proofs.Refused.{profile_read}
-use Rattle.fd_pprof.proofs.reading.survey.Goals as goal
-
-pub returns-clause-ok : goal.returns-clause-ok
-returns-clause-ok c =
-    profile_read c.args.bytes.now c.in-Ok.raw c.in_ok-tables.tables.indexed.raw c.in_ok-tables.tables.texts c.of.result c.if-is_compressed.ensures c.in-Ok.ensures.ok.0 c.in-Ok.ensures.ok.1
-    c.in_ok-tables.ensures.none c.in_ok-tables.ensures.raw c.in_ok-tables.ensures.texts c.of.ensures
