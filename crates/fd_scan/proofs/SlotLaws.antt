@@ -177,5 +177,3 @@ no_sums m sums empty = record {
   where
     none : (a : Stack) (s : ℕ) → get stack_cmp m a ≡ Some s → ⊥
     none a s found = let p : None ≡ Some s = sym (ap (lookup (is_at (stack_cmp a))) empty) ∙ found in cc
-
--- ---- the places that stay

@@ -34,8 +34,8 @@ enum Groups {
 }
 
 /// What was gathered of rows for one query so far. The columns of one part after the other are
-/// scanned into it. It is the meaning of the one query that it was made for: never scan for another
-/// into it.
+/// scanned into it. Never scan into it for another query than the one that it was made for: what it
+/// answers then is the meaning of neither.
 #[derive(Drop)]
 pub struct Gathered {
     alloc: Global,
