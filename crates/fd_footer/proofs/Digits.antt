@@ -5,7 +5,7 @@ use Rattle.std.specs.Str.Parse.{digits_value}
 use Rattle.std.proofs.lemmas.Grind.{common_steps}
 use Rattle.std.proofs.lemmas.Int.Digits.{digits_value_more}
 use Rattle.std.proofs.lemmas.Str.Parse.{digits_value-take-le}
-use Rattle.fd_footer.specs.Tabled.{number_in}
+use Rattle.fd_footer.specs.Contents.{number_in}
 
 pub digit_is : (d : ℕ) → is_ascii_digit d ≡ true → digit_value d + 48 ≡ d
 digit_is d digit = grind (arith, common_steps)

@@ -2,9 +2,10 @@
 use Rattle.std.specs.Prelude.{◌≡◌, ℕ, ◌<◌, ◌^◌, ◌==◌, pos, List, [], ◌∷◌, length, codes, if◌then◌else◌}
 use Rattle.std.specs.List.{All}
 use Rattle.fd_thrift.specs.Values.{Value, whole32, whole64, binary}
-use Rattle.fd_thrift.specs.Spelling.{spelling}
+use Rattle.fd_thrift.specs.Format.{spelling}
 use Rattle.fd_footer.specs.declared.footer.Chunk.{Chunk}
 use Rattle.fd_footer.specs.declared.footer.Footer.{Footer}
+use Rattle.fd_footer.specs.FieldIds.{file_created_by, file_key_value_metadata, file_num_rows, file_row_groups, file_schema, file_version}
 use Rattle.fd_footer.specs.Tables.{structure, sequence, schema_value, group_value, entries_value, total_size}
 
 -- all rows are one group, and no rows are none
@@ -13,12 +14,12 @@ group_values f = if f.rows == 0 then [] else group_value f.pages f.rows f.column
 
 abbrev pub footer_value : Footer → Value
 footer_value f = structure (
-    (pos 1, whole32 (pos 1))
-    ∷ (pos 2, schema_value f.columns)
-    ∷ (pos 3, whole64 (pos f.rows))
-    ∷ (pos 4, sequence (group_values f))
-    ∷ (pos 5, entries_value f.hi f.lo f.pages)
-    ∷ (pos 6, binary (codes "frostd"))
+    (pos file_version, whole32 (pos 1))
+    ∷ (pos file_schema, schema_value f.columns)
+    ∷ (pos file_num_rows, whole64 (pos f.rows))
+    ∷ (pos file_row_groups, sequence (group_values f))
+    ∷ (pos file_key_value_metadata, entries_value f.hi f.lo f.pages)
+    ∷ (pos file_created_by, binary (codes "frostd"))
     ∷ [])
 
 unfoldable pub footer_bytes : Footer → List ℕ

@@ -1,7 +1,8 @@
+pub mod Contents
+pub mod FieldIds
 pub mod Footers
+pub mod Layout
 pub mod Lookups
-pub mod Own
-pub mod Read
+pub mod Reader
 pub mod Shapes
-pub mod Tabled
 pub mod Tables

@@ -2,6 +2,7 @@
 use Rattle.std.specs.Prelude.{ℕ, ◌-◌, Bool, true, false, ◌&&◌, ◌==◌, pos, List, [], ◌∷◌, Option, Some, None}
 use Rattle.std.specs.Ordering.{int_eq}
 use Rattle.fd_thrift.specs.Values.{Value, whole32, whole64, binary, list, struct, Items, no_items, item, Fields, no_fields, field}
+use Rattle.fd_footer.specs.FieldIds.{chunk_file_offset, chunk_meta_data, element_name, element_num_children, element_repetition_type, element_type, file_created_by, file_key_value_metadata, file_num_rows, file_row_groups, file_schema, file_version, group_columns, group_num_rows, group_total_byte_size, meta_codec, meta_data_page_offset, meta_dictionary_page_offset, meta_encodings, meta_num_values, meta_path_in_schema, meta_total_compressed_size, meta_total_uncompressed_size, meta_type, pair_key, pair_value}
 use Rattle.fd_footer.specs.declared.shape.Shape.{Shape}
 use Rattle.fd_footer.specs.declared.shape.Shape.TheVariants.{Whole32, Whole64, Binary, FileMetaData, Schema, Root, Element, RowGroups, RowGroup, ColumnChunks, ColumnChunk, ColumnMetaData, Encodings, Path, KeyValues, KeyValue}
 use Rattle.fd_footer.specs.declared.shape.Rule.{Rule}
@@ -11,15 +12,15 @@ rule id shape = record { id = pos id; shape = shape }
 
 -- the fields of a struct, in order; other shapes have none
 abbrev pub rules : Shape → List Rule
-rules FileMetaData = rule 1 Whole32 ∷ rule 2 Schema ∷ rule 3 Whole64 ∷ rule 4 RowGroups ∷ rule 5 KeyValues ∷ rule 6 Binary ∷ []
-rules Root = rule 4 Binary ∷ rule 5 Whole32 ∷ []
-rules Element = rule 1 Whole32 ∷ rule 3 Whole32 ∷ rule 4 Binary ∷ []
-rules RowGroup = rule 1 ColumnChunks ∷ rule 2 Whole64 ∷ rule 3 Whole64 ∷ []
-rules ColumnChunk = rule 2 Whole64 ∷ rule 3 ColumnMetaData ∷ []
+rules FileMetaData = rule file_version Whole32 ∷ rule file_schema Schema ∷ rule file_num_rows Whole64 ∷ rule file_row_groups RowGroups ∷ rule file_key_value_metadata KeyValues ∷ rule file_created_by Binary ∷ []
+rules Root = rule element_name Binary ∷ rule element_num_children Whole32 ∷ []
+rules Element = rule element_type Whole32 ∷ rule element_repetition_type Whole32 ∷ rule element_name Binary ∷ []
+rules RowGroup = rule group_columns ColumnChunks ∷ rule group_total_byte_size Whole64 ∷ rule group_num_rows Whole64 ∷ []
+rules ColumnChunk = rule chunk_file_offset Whole64 ∷ rule chunk_meta_data ColumnMetaData ∷ []
 rules ColumnMetaData =
-    rule 1 Whole32 ∷ rule 2 Encodings ∷ rule 3 Path ∷ rule 4 Whole32 ∷ rule 5 Whole64
-    ∷ rule 6 Whole64 ∷ rule 7 Whole64 ∷ rule 9 Whole64 ∷ rule 11 Whole64 ∷ []
-rules KeyValue = rule 1 Binary ∷ rule 2 Binary ∷ []
+    rule meta_type Whole32 ∷ rule meta_encodings Encodings ∷ rule meta_path_in_schema Path ∷ rule meta_codec Whole32 ∷ rule meta_num_values Whole64
+    ∷ rule meta_total_uncompressed_size Whole64 ∷ rule meta_total_compressed_size Whole64 ∷ rule meta_data_page_offset Whole64 ∷ rule meta_dictionary_page_offset Whole64 ∷ []
+rules KeyValue = rule pair_key Binary ∷ rule pair_value Binary ∷ []
 rules shape = []
 
 -- How many of the fields have to be there: all but the place of a dictionary, which comes last. Each struct has two at least.

@@ -2,6 +2,7 @@
 use Rattle.std.specs.Prelude.{ℕ, ◌+◌, Bool, true, false, ℤ, pos, List, [], ◌∷◌, ◌++◌, length, map, codes, decimal}
 use Rattle.fd_thrift.specs.Values.{Value, whole32, whole64, binary, list, struct}
 use Rattle.fd_thrift.specs.View.{items_of, fields_of}
+use Rattle.fd_footer.specs.FieldIds.{chunk_file_offset, chunk_meta_data, element_name, element_num_children, element_repetition_type, element_type, group_columns, group_num_rows, group_total_byte_size, meta_codec, meta_data_page_offset, meta_dictionary_page_offset, meta_encodings, meta_num_values, meta_path_in_schema, meta_total_compressed_size, meta_total_uncompressed_size, meta_type, pair_key, pair_value}
 use Rattle.fd_footer.specs.declared.footer.ColumnType.{ColumnType}
 use Rattle.fd_footer.specs.declared.footer.ColumnType.TheVariants.{Int64, ByteArray}
 use Rattle.fd_footer.specs.declared.footer.Pages.{Pages}
@@ -46,15 +47,15 @@ uncompressed = 0
 -- the root, which has so many columns
 abbrev pub root_value : ℕ → Value
 root_value columns = structure (
-    (pos 4, binary (codes "schema"))
-    ∷ (pos 5, whole32 (pos columns))
+    (pos element_name, binary (codes "schema"))
+    ∷ (pos element_num_children, whole32 (pos columns))
     ∷ [])
 
 abbrev pub column_value : Column → Value
 column_value c = structure (
-    (pos 1, whole32 (pos (type_number c.column_type)))
-    ∷ (pos 3, whole32 (pos (repetition_number c.required)))
-    ∷ (pos 4, binary c.name)
+    (pos element_type, whole32 (pos (type_number c.column_type)))
+    ∷ (pos element_repetition_type, whole32 (pos (repetition_number c.required)))
+    ∷ (pos element_name, binary c.name)
     ∷ [])
 
 abbrev pub schema_value : List Column → Value
@@ -63,7 +64,7 @@ schema_value columns = sequence (root_value (length columns) ∷ map column_valu
 -- ---- KeyValue
 
 abbrev pub entry_value : List ℕ → List ℕ → Value
-entry_value key value = structure ((pos 1, binary key) ∷ (pos 2, binary value) ∷ [])
+entry_value key value = structure ((pos pair_key, binary key) ∷ (pos pair_value, binary value) ∷ [])
 
 abbrev pub pages_name : Pages → List ℕ
 pages_name Plain = codes "plain"
@@ -96,24 +97,24 @@ encodings false true = plain_encoding ∷ rle_encoding ∷ dictionary_encoding �
 -- what the chunk holds; the values that are absent count too
 abbrev pub content_fields : Bool → ℕ → Column → List (ℤ × Value)
 content_fields dictionary rows c =
-    (pos 1, whole32 (pos (type_number c.column_type)))
-    ∷ (pos 2, sequence (map number_value (encodings c.required dictionary)))
-    ∷ (pos 3, sequence (binary c.name ∷ []))
-    ∷ (pos 4, whole32 (pos uncompressed))
-    ∷ (pos 5, whole64 (pos rows))
+    (pos meta_type, whole32 (pos (type_number c.column_type)))
+    ∷ (pos meta_encodings, sequence (map number_value (encodings c.required dictionary)))
+    ∷ (pos meta_path_in_schema, sequence (binary c.name ∷ []))
+    ∷ (pos meta_codec, whole32 (pos uncompressed))
+    ∷ (pos meta_num_values, whole64 (pos rows))
     ∷ []
 
 -- where its pages stand: the sizes count the headers of pages
 abbrev pub place_fields : Chunk → List (ℤ × Value)
 place_fields k =
-    (pos 6, whole64 (pos k.size))
-    ∷ (pos 7, whole64 (pos k.size))
-    ∷ (pos 9, whole64 (pos k.data_page))
+    (pos meta_total_uncompressed_size, whole64 (pos k.size))
+    ∷ (pos meta_total_compressed_size, whole64 (pos k.size))
+    ∷ (pos meta_data_page_offset, whole64 (pos k.data_page))
     ∷ []
 
 -- where its dictionary stands, if it has one
 abbrev pub dictionary_fields : Bool → Chunk → List (ℤ × Value)
-dictionary_fields true k = (pos 11, whole64 (pos k.place)) ∷ []
+dictionary_fields true k = (pos meta_dictionary_page_offset, whole64 (pos k.place)) ∷ []
 dictionary_fields false k = []
 
 abbrev pub meta_value : Bool → ℕ → Column → Chunk → Value
@@ -123,8 +124,8 @@ meta_value dictionary rows c k = structure (content_fields dictionary rows c ++ 
 
 abbrev pub chunk_value : Pages → ℕ → Column → Chunk → Value
 chunk_value pages rows c k = structure (
-    (pos 2, whole64 (pos k.place))
-    ∷ (pos 3, meta_value (has_dictionary pages c.column_type) rows c k)
+    (pos chunk_file_offset, whole64 (pos k.place))
+    ∷ (pos chunk_meta_data, meta_value (has_dictionary pages c.column_type) rows c k)
     ∷ [])
 
 -- the chunks of columns, one for each
@@ -142,7 +143,7 @@ total_size (k ∷ chunks) = k.size + total_size chunks
 
 abbrev pub group_value : Pages → ℕ → List Column → List Chunk → Value
 group_value pages rows columns chunks = structure (
-    (pos 1, sequence (chunk_values pages rows columns chunks))
-    ∷ (pos 2, whole64 (pos (total_size chunks)))
-    ∷ (pos 3, whole64 (pos rows))
+    (pos group_columns, sequence (chunk_values pages rows columns chunks))
+    ∷ (pos group_total_byte_size, whole64 (pos (total_size chunks)))
+    ∷ (pos group_num_rows, whole64 (pos rows))
     ∷ [])

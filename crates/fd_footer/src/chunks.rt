@@ -4,6 +4,12 @@ ghost use Rattle.fd_thrift.specs.View.{view, field_view};
 ghost use Rattle.fd_footer.specs.Tables.{has_dictionary as may_have_dictionary, number_value, encodings, content_fields, place_fields, meta_value, chunk_value, chunk_values, total_size as size_of_all, group_value};
 ghost use Rattle.fd_footer.specs.Footers.{IsPlaced};
 
+use crate::field_ids::{
+    CHUNK_FILE_OFFSET, CHUNK_META_DATA, GROUP_COLUMNS, GROUP_NUM_ROWS, GROUP_TOTAL_BYTE_SIZE,
+    META_CODEC, META_DATA_PAGE_OFFSET, META_DICTIONARY_PAGE_OFFSET, META_ENCODINGS,
+    META_NUM_VALUES, META_PATH_IN_SCHEMA, META_TOTAL_COMPRESSED_SIZE, META_TOTAL_UNCOMPRESSED_SIZE,
+    META_TYPE,
+};
 use crate::fields::{
     binary_tree, list_field, struct_tree, tree_field, whole32_field, whole64_field,
 };
@@ -13,8 +19,8 @@ use fd_lists::NoMemory;
 use fd_thrift::{Tree, TreeField, TreeFields, Trees};
 use std::alloc::Global;
 
-/// Whether the pages of such a column begin with a dictionary.
-fn has_dictionary(pages: Pages, column_type: ColumnType) -> bool
+/// Whether the chunk of a column begins with a dictionary, in a file with these pages.
+pub fn has_dictionary(pages: Pages, column_type: ColumnType) -> bool
     ensures { result ≡ may_have_dictionary pages column_type }
 {
     match pages {
@@ -28,7 +34,8 @@ fn has_dictionary(pages: Pages, column_type: ColumnType) -> bool
 
 /// The encodings that a chunk uses: of its values, its levels and its indexes.
 fn encoding_trees(alloc: Global, required: bool, dictionary: bool) -> Result<Trees, NoMemory>
-    ensures { IfOk result (λ ts. map view ts.items ≡ map number_value (encodings required dictionary)) }
+    ensures { IfOk result
+        (λ ts. map view ts.items ≡ map number_value (encodings required dictionary)) }
 {
     let mut trees = vec![in alloc; Tree::Whole32(0)]?;
     if !required {
@@ -48,15 +55,16 @@ fn content_trees(
     column: &Column,
 ) -> Result<TreeFields, NoMemory>
     requires { rows < 2 ^ 63 }
-    ensures { IfOk result (λ fs. map field_view fs.items ≡ content_fields dictionary rows column.now) }
+    ensures { IfOk result
+        (λ fs. map field_view fs.items ≡ content_fields dictionary rows column.now) }
 {
     let encodings = encoding_trees(alloc, column.required, dictionary)?;
     let path = vec![in alloc; binary_tree(alloc, column.name.as_bytes())?]?;
-    let column_type = whole32_field(1, type_number(column.column_type));
-    let encodings = list_field(2, encodings);
-    let path = list_field(3, path);
-    let codec = whole32_field(4, 0);
-    let values = whole64_field(5, rows as i64);
+    let column_type = whole32_field(META_TYPE, type_number(column.column_type));
+    let encodings = list_field(META_ENCODINGS, encodings);
+    let path = list_field(META_PATH_IN_SCHEMA, path);
+    let codec = whole32_field(META_CODEC, 0);
+    let values = whole64_field(META_NUM_VALUES, rows as i64);
     Ok(vec![in alloc; column_type, encodings, path, codec, values]?)
 }
 
@@ -66,9 +74,9 @@ fn place_trees(alloc: Global, chunk: &Chunk) -> Result<TreeFields, NoMemory>
     requires size { chunk.now.size < 2 ^ 63 }
     ensures { IfOk result (λ fs. map field_view fs.items ≡ place_fields chunk.now) }
 {
-    let uncompressed = whole64_field(6, chunk.size as i64);
-    let compressed = whole64_field(7, chunk.size as i64);
-    let data_page = whole64_field(9, chunk.data_page as i64);
+    let uncompressed = whole64_field(META_TOTAL_UNCOMPRESSED_SIZE, chunk.size as i64);
+    let compressed = whole64_field(META_TOTAL_COMPRESSED_SIZE, chunk.size as i64);
+    let data_page = whole64_field(META_DATA_PAGE_OFFSET, chunk.data_page as i64);
     Ok(vec![in alloc; uncompressed, compressed, data_page]?)
 }
 
@@ -88,7 +96,7 @@ fn meta_tree(
     let mut fields = content_trees(alloc, dictionary, rows, column)?;
     fields.append(&mut place_trees(alloc, chunk)?)?;
     if dictionary {
-        fields.push(whole64_field(11, chunk.place as i64))?;
+        fields.push(whole64_field(META_DICTIONARY_PAGE_OFFSET, chunk.place as i64))?;
     }
     Ok(struct_tree(fields))
 }
@@ -107,8 +115,11 @@ fn chunk_tree(
     ensures { IfOk result (λ t. view t ≡ chunk_value pages rows column.now chunk.now) }
 {
     let dictionary = has_dictionary(pages, column.column_type);
-    let place = whole64_field(2, chunk.place as i64);
-    let meta = tree_field(3, meta_tree(alloc, dictionary, rows, column, chunk)?);
+    let place = whole64_field(CHUNK_FILE_OFFSET, chunk.place as i64);
+    let meta = tree_field(
+        CHUNK_META_DATA,
+        meta_tree(alloc, dictionary, rows, column, chunk)?,
+    );
     Ok(struct_tree(vec![in alloc; place, meta]?))
 }
 
@@ -124,7 +135,8 @@ fn chunk_trees(
     requires each { length chunks.now ≡ length columns.now }
     requires placed { All IsPlaced chunks.now }
     requires sizes { size_of_all chunks.now < 2 ^ 63 }
-    ensures { IfOk result (λ ts. map view ts.items ≡ chunk_values pages rows columns.now chunks.now) }
+    ensures { IfOk result
+        (λ ts. map view ts.items ≡ chunk_values pages rows columns.now chunks.now) }
 {
     let mut trees = Vec::new(alloc);
     for (at, column) in columns.iter().enumerate() {
@@ -159,8 +171,11 @@ pub(crate) fn group_tree(
     requires sizes { size_of_all chunks.now < 2 ^ 63 }
     ensures { IfOk result (λ t. view t ≡ group_value pages rows columns.now chunks.now) }
 {
-    let chunk_list = list_field(1, chunk_trees(alloc, pages, rows, columns, chunks)?);
-    let size = whole64_field(2, total_size(chunks) as i64);
-    let rows = whole64_field(3, rows as i64);
+    let chunk_list = list_field(
+        GROUP_COLUMNS,
+        chunk_trees(alloc, pages, rows, columns, chunks)?,
+    );
+    let size = whole64_field(GROUP_TOTAL_BYTE_SIZE, total_size(chunks) as i64);
+    let rows = whole64_field(GROUP_NUM_ROWS, rows as i64);
     Ok(struct_tree(vec![in alloc; chunk_list, size, rows]?))
 }

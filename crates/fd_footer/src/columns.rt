@@ -3,10 +3,11 @@ ghost use Rattle.std.specs.List.{list_all};
 ghost use Rattle.std.specs.Ordering.{int_eq};
 ghost use Rattle.std.specs.Str.{is_utf8};
 ghost use Rattle.fd_thrift.specs.View.{view};
-ghost use Rattle.fd_footer.specs.Tabled.{is_type as is_type_number, is_repetition as is_repetition_number, is_column, column_at, is_root as is_root_value, is_schema, columns_in};
+ghost use Rattle.fd_footer.specs.Contents.{is_type as is_type_number, is_repetition as is_repetition_number, is_column, column_at, is_root as is_root_value, is_schema, columns_in};
 
+use crate::field_ids::{ELEMENT_NAME, ELEMENT_NUM_CHILDREN, ELEMENT_REPETITION_TYPE, ELEMENT_TYPE};
+use crate::layout::are_own;
 use crate::lookup::{number, text};
-use crate::own::are_own;
 use crate::{Column, ColumnType, Columns};
 use fd_lists::{Items, NoMemory, Text};
 use fd_thrift::Tree;
@@ -15,7 +16,8 @@ use std::alloc::Global;
 /// The text of these bytes, where they are UTF-8.
 #[tactic(auto, using(crate::proofs::Utf8::utf8_tests))]
 fn name_of(alloc: Global, bytes: &[u8]) -> Result<Option<Text>, NoMemory>
-    ensures { IfOk result (λ text. MatchOption text (is_utf8 bytes.now ≡ false) (λ t. (t ≡ bytes.now) × (is_utf8 bytes.now ≡ true))) }
+    ensures { IfOk result (λ text. MatchOption text (is_utf8 bytes.now ≡ false)
+        (λ t. (t ≡ bytes.now) × (is_utf8 bytes.now ≡ true))) }
 {
     match std::str::from_utf8(bytes) {
         Ok(text) => Ok(Some(Text::of(alloc, text)?)),
@@ -42,12 +44,12 @@ fn column_of(alloc: Global, element: &Tree) -> Result<Option<Column>, NoMemory>
     ensures { IfOk result (λ column. MatchOption column (is_column (view element.now) ≡ false)
         (λ c. (c ≡ column_at (view element.now)) × (is_column (view element.now) ≡ true))) }
 {
-    let type_number = number(element, 1);
-    let repetition = number(element, 3);
+    let type_number = number(element, ELEMENT_TYPE);
+    let repetition = number(element, ELEMENT_REPETITION_TYPE);
     if !is_type(type_number) || !is_repetition(repetition) {
         return Ok(None);
     }
-    let Some(name) = name_of(alloc, text(element, 4))? else {
+    let Some(name) = name_of(alloc, text(element, ELEMENT_NAME))? else {
         return Ok(None);
     };
     let column_type = if type_number == 2 {
@@ -64,8 +66,10 @@ fn column_of(alloc: Global, element: &Tree) -> Result<Option<Column>, NoMemory>
 
 /// The columns that elements describe.
 fn columns_of(alloc: Global, elements: &[Tree]) -> Result<Option<Columns>, NoMemory>
-    ensures { IfOk result (λ columns. MatchOption columns (list_all is_column (map view elements.now) ≡ false)
-        (λ cs. (cs ≡ map column_at (map view elements.now)) × (list_all is_column (map view elements.now) ≡ true))) }
+    ensures { IfOk result
+        (λ columns. MatchOption columns (list_all is_column (map view elements.now) ≡ false)
+        (λ cs. (cs ≡ map column_at (map view elements.now))
+        × (list_all is_column (map view elements.now) ≡ true))) }
 {
     let mut columns = Items::new(alloc);
     for element in elements {
@@ -88,13 +92,15 @@ fn is_count(number: i64, count: usize) -> bool
 fn is_root(columns: usize, element: &Tree) -> bool
     ensures { result ≡ is_root_value columns (view element.now) }
 {
-    text(element, 4) == b"schema".as_slice() && is_count(number(element, 5), columns)
+    text(element, ELEMENT_NAME) == b"schema".as_slice()
+        && is_count(number(element, ELEMENT_NUM_CHILDREN), columns)
 }
 
 /// The columns of a schema, where they are those of this project's files.
 pub(crate) fn schema_columns(alloc: Global, schema: &[Tree]) -> Result<Option<Columns>, NoMemory>
     ensures { IfOk result (λ columns. MatchOption columns (is_schema (map view schema.now) ≡ false)
-        (λ cs. (cs ≡ columns_in (map view schema.now)) × (is_schema (map view schema.now) ≡ true))) }
+        (λ cs. (cs ≡ columns_in (map view schema.now))
+        × (is_schema (map view schema.now) ≡ true))) }
 {
     let Some((root, elements)) = schema.split_first() else {
         return Ok(None);

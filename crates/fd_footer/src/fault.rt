@@ -1,4 +1,6 @@
 use fd_lists::NoMemory;
+use std::error::Error;
+use std::fmt;
 
 /// Why bytes can't be read as a footer.
 #[derive(Clone, Copy, Debug, PartialEq, Eq)]
@@ -10,6 +12,18 @@ pub enum FooterFault {
     Schema,
     NoMemory,
 }
+
+impl fmt::Display for FooterFault {
+    fn fmt<W: fmt::Write>(&self, f: &mut fmt::Formatter<W>) -> fmt::Result {
+        match self {
+            FooterFault::Footer => write!(f, "no Thrift struct with the fields of a FileMetaData"),
+            FooterFault::Schema => write!(f, "a footer of another program's columns or entries"),
+            FooterFault::NoMemory => write!(f, "out of memory"),
+        }
+    }
+}
+
+impl Error for FooterFault {}
 
 impl From<NoMemory> for FooterFault {
     ghost use Rattle.std.specs.Prelude.{◌≡◌};

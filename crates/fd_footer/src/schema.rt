@@ -3,6 +3,7 @@ ghost use Rattle.fd_thrift.specs.View.{view, items_view};
 ghost use Rattle.fd_thrift.specs.Values.{list};
 ghost use Rattle.fd_footer.specs.Tables.{type_number as number_of_type, repetition_number as number_of_repetition, root_value, column_value, schema_value};
 
+use crate::field_ids::{ELEMENT_NAME, ELEMENT_NUM_CHILDREN, ELEMENT_REPETITION_TYPE, ELEMENT_TYPE};
 use crate::fields::{binary_field, struct_tree, whole32_field};
 use crate::{Column, ColumnType};
 use fd_lists::NoMemory;
@@ -31,8 +32,8 @@ fn root_tree(alloc: Global, columns: usize) -> Result<Tree, NoMemory>
     requires { columns < 2 ^ 31 }
     ensures { IfOk result (λ t. view t ≡ root_value columns) }
 {
-    let name = binary_field(alloc, 4, b"schema")?;
-    let children = whole32_field(5, columns as i32);
+    let name = binary_field(alloc, ELEMENT_NAME, b"schema")?;
+    let children = whole32_field(ELEMENT_NUM_CHILDREN, columns as i32);
     Ok(struct_tree(vec![in alloc; name, children]?))
 }
 
@@ -40,9 +41,9 @@ fn root_tree(alloc: Global, columns: usize) -> Result<Tree, NoMemory>
 fn column_tree(alloc: Global, column: &Column) -> Result<Tree, NoMemory>
     ensures { IfOk result (λ t. view t ≡ column_value column.now) }
 {
-    let kind = whole32_field(1, type_number(column.column_type));
-    let repetition = whole32_field(3, repetition_number(column.required));
-    let name = binary_field(alloc, 4, column.name.as_bytes())?;
+    let kind = whole32_field(ELEMENT_TYPE, type_number(column.column_type));
+    let repetition = whole32_field(ELEMENT_REPETITION_TYPE, repetition_number(column.required));
+    let name = binary_field(alloc, ELEMENT_NAME, column.name.as_bytes())?;
     Ok(struct_tree(vec![in alloc; kind, repetition, name]?))
 }
 

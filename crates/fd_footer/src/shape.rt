@@ -2,6 +2,14 @@ ghost use Rattle.std.specs.Prelude.{◌≡◌};
 ghost use Rattle.fd_thrift.specs.View.{view, items_view, fields_view};
 ghost use Rattle.fd_footer.specs.Shapes.{rules as rules_of, needed as needed_of, item_shapes as item_shapes_of, fits as fits_shape, items_fit as items_have, fields_fit as fields_have, has_shape as has_footer_shape};
 
+use crate::field_ids::{
+    CHUNK_FILE_OFFSET, CHUNK_META_DATA, ELEMENT_NAME, ELEMENT_NUM_CHILDREN,
+    ELEMENT_REPETITION_TYPE, ELEMENT_TYPE, FILE_CREATED_BY, FILE_KEY_VALUE_METADATA, FILE_NUM_ROWS,
+    FILE_ROW_GROUPS, FILE_SCHEMA, FILE_VERSION, GROUP_COLUMNS, GROUP_NUM_ROWS,
+    GROUP_TOTAL_BYTE_SIZE, META_CODEC, META_DATA_PAGE_OFFSET, META_DICTIONARY_PAGE_OFFSET,
+    META_ENCODINGS, META_NUM_VALUES, META_PATH_IN_SCHEMA, META_TOTAL_COMPRESSED_SIZE,
+    META_TOTAL_UNCOMPRESSED_SIZE, META_TYPE, PAIR_KEY, PAIR_VALUE,
+};
 use fd_thrift::{Tree, TreeFields, Trees};
 
 /// A kind of value in a footer: a number, a text, or one of Parquet's lists and structs
@@ -36,129 +44,129 @@ pub(crate) struct Rule {
 
 const FILE_META_DATA: [Rule; 6] = [
     Rule {
-        id: 1,
+        id: FILE_VERSION,
         shape: Shape::Whole32,
     },
     Rule {
-        id: 2,
+        id: FILE_SCHEMA,
         shape: Shape::Schema,
     },
     Rule {
-        id: 3,
+        id: FILE_NUM_ROWS,
         shape: Shape::Whole64,
     },
     Rule {
-        id: 4,
+        id: FILE_ROW_GROUPS,
         shape: Shape::RowGroups,
     },
     Rule {
-        id: 5,
+        id: FILE_KEY_VALUE_METADATA,
         shape: Shape::KeyValues,
     },
     Rule {
-        id: 6,
+        id: FILE_CREATED_BY,
         shape: Shape::Binary,
     },
 ];
 
 const ROOT: [Rule; 2] = [
     Rule {
-        id: 4,
+        id: ELEMENT_NAME,
         shape: Shape::Binary,
     },
     Rule {
-        id: 5,
+        id: ELEMENT_NUM_CHILDREN,
         shape: Shape::Whole32,
     },
 ];
 
 const ELEMENT: [Rule; 3] = [
     Rule {
-        id: 1,
+        id: ELEMENT_TYPE,
         shape: Shape::Whole32,
     },
     Rule {
-        id: 3,
+        id: ELEMENT_REPETITION_TYPE,
         shape: Shape::Whole32,
     },
     Rule {
-        id: 4,
+        id: ELEMENT_NAME,
         shape: Shape::Binary,
     },
 ];
 
 const ROW_GROUP: [Rule; 3] = [
     Rule {
-        id: 1,
+        id: GROUP_COLUMNS,
         shape: Shape::ColumnChunks,
     },
     Rule {
-        id: 2,
+        id: GROUP_TOTAL_BYTE_SIZE,
         shape: Shape::Whole64,
     },
     Rule {
-        id: 3,
+        id: GROUP_NUM_ROWS,
         shape: Shape::Whole64,
     },
 ];
 
 const COLUMN_CHUNK: [Rule; 2] = [
     Rule {
-        id: 2,
+        id: CHUNK_FILE_OFFSET,
         shape: Shape::Whole64,
     },
     Rule {
-        id: 3,
+        id: CHUNK_META_DATA,
         shape: Shape::ColumnMetaData,
     },
 ];
 
 const COLUMN_META_DATA: [Rule; 9] = [
     Rule {
-        id: 1,
+        id: META_TYPE,
         shape: Shape::Whole32,
     },
     Rule {
-        id: 2,
+        id: META_ENCODINGS,
         shape: Shape::Encodings,
     },
     Rule {
-        id: 3,
+        id: META_PATH_IN_SCHEMA,
         shape: Shape::Path,
     },
     Rule {
-        id: 4,
+        id: META_CODEC,
         shape: Shape::Whole32,
     },
     Rule {
-        id: 5,
+        id: META_NUM_VALUES,
         shape: Shape::Whole64,
     },
     Rule {
-        id: 6,
+        id: META_TOTAL_UNCOMPRESSED_SIZE,
         shape: Shape::Whole64,
     },
     Rule {
-        id: 7,
+        id: META_TOTAL_COMPRESSED_SIZE,
         shape: Shape::Whole64,
     },
     Rule {
-        id: 9,
+        id: META_DATA_PAGE_OFFSET,
         shape: Shape::Whole64,
     },
     Rule {
-        id: 11,
+        id: META_DICTIONARY_PAGE_OFFSET,
         shape: Shape::Whole64,
     },
 ];
 
 const KEY_VALUE: [Rule; 2] = [
     Rule {
-        id: 1,
+        id: PAIR_KEY,
         shape: Shape::Binary,
     },
     Rule {
-        id: 2,
+        id: PAIR_VALUE,
         shape: Shape::Binary,
     },
 ];

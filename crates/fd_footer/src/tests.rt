@@ -63,7 +63,7 @@ const OWN: [u8; 262] = [
 ];
 
 /// A footer of three rows, whose texts have their first data page at this place.
-#[tactic(auto, using(crate::proofs::Placed::both_placed))]
+#[tactic(auto, using(crate::proofs::Places::both_placed))]
 fn three_rows(alloc: Global, pages: Pages, data_page: u64) -> Result<Footer, AllocError>
     requires { data_page < 2 ^ 63 }
     ensures { IfOk result (λ f. IsWritable f) }

@@ -4,13 +4,13 @@ use Rattle.std.proofs.lemmas.Bool.{cases_lt}
 use Rattle.std.proofs.lemmas.Bool.Decides.{nat_tests}
 use Rattle.fd_hybrid.specs.declared.fault.HybridFault.{HybridFault}
 use Rattle.fd_hybrid.specs.declared.fault.HybridFault.TheVariants.{BadRun}
-use Rattle.fd_hybrid.specs.Spelling.{IsVarint}
-use Rattle.fd_hybrid.specs.Reading.{◌>>=◌, header_at, tail_at, capped_at, is_even}
+use Rattle.fd_hybrid.specs.Format.{IsVarint}
+use Rattle.fd_hybrid.specs.Unpacker.{◌>>=◌, header_at, tail_at, capped_at, is_even}
 use Rattle.fd_hybrid.proofs.Headers.{most}
 use Rattle.fd_hybrid.proofs.Varints.{longer}
-use Rattle.fd_hybrid.proofs.Groupwise.{IsBytes, lt_true, lt_false}
-use Rattle.fd_hybrid.proofs.GroupsFound.{chosen, not_ok, was_ok, lt_of, ge_of}
-use Rattle.fd_hybrid.proofs.GroupsEnd.{err_is}
+use Rattle.fd_hybrid.proofs.GroupLaws.{IsBytes, lt_true, lt_false}
+use Rattle.fd_hybrid.proofs.GroupReads.{chosen, not_ok, was_ok, lt_of, ge_of}
+use Rattle.fd_hybrid.proofs.GroupEnds.{err_is}
 use Rattle.fd_hybrid.proofs.Loops.{ok_is}
 
 -- what a byte that another follows adds

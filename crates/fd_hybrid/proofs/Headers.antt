@@ -8,7 +8,7 @@ use Rattle.std.proofs.lemmas.Grind.{common_steps}
 use Rattle.std.proofs.lemmas.Bool.Decides.{nat_tests}
 use Rattle.fd_hybrid.specs.declared.fault.HybridFault.{HybridFault}
 use Rattle.fd_hybrid.specs.declared.fault.HybridFault.TheVariants.{BadRun}
-use Rattle.fd_hybrid.specs.Reading.{◌>>=◌, header_at, tail_at, capped_at}
+use Rattle.fd_hybrid.specs.Unpacker.{◌>>=◌, header_at, tail_at, capped_at}
 
 power_pos : (k : ℕ) → 0 < 128 ^ k
 power_pos k = one-le-pow k 128 (omega arith)

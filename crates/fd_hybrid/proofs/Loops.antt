@@ -3,7 +3,7 @@ use Rattle.std.proofs.Common.{◌≡◌, ℕ, suc, ◌-◌, ◌+◌, ◌≤◌, 
 use Rattle.std.proofs.lemmas.List.{append-nil}
 use Rattle.fd_hybrid.specs.declared.fault.HybridFault.{HybridFault}
 use Rattle.fd_hybrid.specs.declared.fault.HybridFault.TheVariants.{Cut, BadRun, OverWidth, NoMemory}
-use Rattle.fd_hybrid.specs.Reading.{◌>>=◌, with_front, Refuses, group_at, groups_at}
+use Rattle.fd_hybrid.specs.Unpacker.{◌>>=◌, with_front, Refuses, group_at, groups_at}
 
 -- one thing is read, and then the next
 abbrev pub in_turn : {A B : Type 0} → Result (List ℕ × A) HybridFault → (A → Result (List ℕ × B) HybridFault) → Result (List ℕ × B) HybridFault

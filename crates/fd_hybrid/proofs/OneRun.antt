@@ -11,15 +11,15 @@ use Rattle.fd_hybrid.specs.declared.runs.Before.{Before}
 use Rattle.fd_hybrid.specs.declared.runs.Before.TheVariants.{Nothing, Repeated, Packed}
 use Rattle.fd_hybrid.specs.Digits.{number, digits}
 use Rattle.fd_hybrid.specs.Runs.{Run, repeated, packed}
-use Rattle.fd_hybrid.specs.Spelling.{IsVarint, byte_count, group_bytes, IsRun}
-use Rattle.fd_hybrid.specs.Reading.{◌>>=◌, Piece, capped_at, repeated_at, packed_at, groups_at, run_at, is_even, repeats, is_packed, goes_on, fits_in}
+use Rattle.fd_hybrid.specs.Format.{IsVarint, byte_count, group_bytes, IsRun}
+use Rattle.fd_hybrid.specs.Unpacker.{◌>>=◌, Piece, capped_at, repeated_at, packed_at, groups_at, run_at, is_even, repeats, is_packed, goes_on, fits_in}
 use Rattle.fd_hybrid.proofs.Headers.{most}
-use Rattle.fd_hybrid.proofs.DigitMore.{Digits, length-digits, number-digits, number-append}
-use Rattle.fd_hybrid.proofs.Standing.{May, Groups, Apart, values_of, after_of, fit_left}
-use Rattle.fd_hybrid.proofs.Groupwise.{take_front, drop_front, groups_ok, lt_true, lt_false, le_true, le_false}
-use Rattle.fd_hybrid.proofs.GroupsFound.{Room, of_room, groups_room}
-use Rattle.fd_hybrid.proofs.GroupsEnd.{first_read, head_of_both}
-use Rattle.fd_hybrid.proofs.Completed.{pow_le}
+use Rattle.fd_hybrid.proofs.DigitNumbers.{Digits, length-digits, number-digits, number-append}
+use Rattle.fd_hybrid.proofs.NextRuns.{May, Groups, Apart, values_of, after_of, fit_left}
+use Rattle.fd_hybrid.proofs.GroupLaws.{take_front, drop_front, groups_ok, lt_true, lt_false, le_true, le_false}
+use Rattle.fd_hybrid.proofs.GroupReads.{Room, of_room, groups_room}
+use Rattle.fd_hybrid.proofs.GroupEnds.{first_read, head_of_both}
+use Rattle.fd_hybrid.proofs.GroupCompletions.{pow_le}
 use Rattle.fd_hybrid.proofs.HeaderLaws.{header_ok, parity, capped_of}
 
 -- a run by its header

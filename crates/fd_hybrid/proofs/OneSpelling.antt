@@ -4,8 +4,8 @@ use Rattle.std.specs.List.{concat, flat_map}
 use Rattle.std.proofs.Math.ListN.{length-replicate}
 use Rattle.fd_hybrid.specs.Digits.{digits}
 use Rattle.fd_hybrid.specs.Runs.{Run, repeated, packed, equal_next, AreTaken, AreRuns}
-use Rattle.fd_hybrid.specs.Spelling.{IsVarint, byte_count, group_bytes, IsRun, AreSpelled, IsSpelling}
-use Rattle.fd_hybrid.proofs.Groupwise.{take_front, drop_front}
+use Rattle.fd_hybrid.specs.Format.{IsVarint, byte_count, group_bytes, IsRun, AreSpelled, IsSpelling}
+use Rattle.fd_hybrid.proofs.GroupLaws.{take_front, drop_front}
 use Rattle.fd_hybrid.proofs.Stretches.{equal_next-le}
 
 -- a number has one varint

@@ -7,15 +7,15 @@ use Rattle.fd_hybrid.specs.declared.fault.HybridFault.TheVariants.{Cut, OverWidt
 use Rattle.fd_hybrid.specs.declared.runs.Before.{Before}
 use Rattle.fd_hybrid.specs.Digits.{number, digits}
 use Rattle.fd_hybrid.specs.Runs.{Run, repeated, packed}
-use Rattle.fd_hybrid.specs.Spelling.{IsVarint, byte_count, group_bytes, IsRun}
+use Rattle.fd_hybrid.specs.Format.{IsVarint, byte_count, group_bytes, IsRun}
 use Rattle.fd_hybrid.specs.Refusals.{IsTooWide}
-use Rattle.fd_hybrid.specs.Reading.{repeated_at, packed_at, groups_at, run_at, is_even, repeats, goes_on}
+use Rattle.fd_hybrid.specs.Unpacker.{repeated_at, packed_at, groups_at, run_at, is_even, repeats, goes_on}
 use Rattle.fd_hybrid.proofs.Headers.{most}
-use Rattle.fd_hybrid.proofs.DigitMore.{length-digits}
-use Rattle.fd_hybrid.proofs.Standing.{May}
-use Rattle.fd_hybrid.proofs.Groupwise.{split, not_empty, groups_cut, le_false}
-use Rattle.fd_hybrid.proofs.GroupsFound.{Room, groups_room}
-use Rattle.fd_hybrid.proofs.Completed.{groups_exist}
+use Rattle.fd_hybrid.proofs.DigitNumbers.{length-digits}
+use Rattle.fd_hybrid.proofs.NextRuns.{May}
+use Rattle.fd_hybrid.proofs.GroupLaws.{split, not_empty, groups_cut, le_false}
+use Rattle.fd_hybrid.proofs.GroupReads.{Room, groups_room}
+use Rattle.fd_hybrid.proofs.GroupCompletions.{groups_exist}
 use Rattle.fd_hybrid.proofs.HeaderLaws.{HeaderCut, header_ok, header_cut, parity, capped_of}
 use Rattle.fd_hybrid.proofs.OneRun.{run-even, run-odd, repeated_cut, repeated_wide, packed_read, may_go_on, run_parts, header_of, content_of, even_of, odd_of, half_even, half_odd, room_count, positive_groups, some_groups}
 

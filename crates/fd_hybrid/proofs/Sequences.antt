@@ -7,12 +7,12 @@ use Rattle.fd_hybrid.specs.declared.fault.HybridFault.TheVariants.{Cut, BadRun, 
 use Rattle.fd_hybrid.specs.declared.runs.Before.{Before}
 use Rattle.fd_hybrid.specs.Digits.{digits}
 use Rattle.fd_hybrid.specs.Runs.{Run}
-use Rattle.fd_hybrid.specs.Spelling.{IsVarint, byte_count, IsRun, AreSpelled}
+use Rattle.fd_hybrid.specs.Format.{IsVarint, byte_count, IsRun, AreSpelled}
 use Rattle.fd_hybrid.specs.Refusals.{IsTooWide}
-use Rattle.fd_hybrid.specs.Reading.{◌>>=◌, Piece, run_at, runs_at}
-use Rattle.fd_hybrid.proofs.DigitMore.{Digits}
-use Rattle.fd_hybrid.proofs.Standing.{May, Goes, values_of, after_of, may_within, some_of, takes, fit_right}
-use Rattle.fd_hybrid.proofs.Groupwise.{split, not_empty}
+use Rattle.fd_hybrid.specs.Unpacker.{◌>>=◌, Piece, run_at, runs_at}
+use Rattle.fd_hybrid.proofs.DigitNumbers.{Digits}
+use Rattle.fd_hybrid.proofs.NextRuns.{May, Goes, values_of, after_of, may_within, some_of, takes, fit_right}
+use Rattle.fd_hybrid.proofs.GroupLaws.{split, not_empty}
 use Rattle.fd_hybrid.proofs.OneRun.{run_ok, run_parts, header_of, content_of}
 use Rattle.fd_hybrid.proofs.RunEnds.{run_cut, run_over_only}
 

@@ -1,6 +1,6 @@
 -- A varint that is written byte by byte.
 use Rattle.std.proofs.Common.{◌≡◌, ℕ, ◌+◌, ◌*◌, ◌/◌, ◌%◌, ◌<◌, ◌≤◌, List, [], ◌∷◌, ◌++◌, sym, ap, ◌∙◌, append_assoc, arith}
-use Rattle.fd_hybrid.specs.Spelling.{IsVarint, AddsVarint}
+use Rattle.fd_hybrid.specs.Format.{IsVarint, AddsVarint}
 
 pub longer : (b high n : ℕ) (bytes : List ℕ) → 128 ≤ b → b < 256 → 0 < high → n + 128 ≡ b + 128 * high → IsVarint bytes high → IsVarint (b ∷ bytes) n
 longer b high n [] big byte some value h = absurd h

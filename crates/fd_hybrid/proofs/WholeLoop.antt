@@ -5,12 +5,12 @@ use Rattle.std.proofs.lemmas.Bool.Decides.{nat_tests}
 use Rattle.fd_hybrid.specs.declared.fault.HybridFault.{HybridFault}
 use Rattle.fd_hybrid.specs.declared.fault.HybridFault.TheVariants.{Cut}
 use Rattle.fd_hybrid.specs.declared.runs.Before.{Before}
-use Rattle.fd_hybrid.specs.Reading.{Piece, with_front, run_at, runs_at}
+use Rattle.fd_hybrid.specs.Unpacker.{Piece, with_front, run_at, runs_at}
 use Rattle.fd_hybrid.proofs.Loops.{ok_is, regroup}
-use Rattle.fd_hybrid.proofs.Standing.{may_within}
-use Rattle.fd_hybrid.proofs.Groupwise.{IsBytes}
+use Rattle.fd_hybrid.proofs.NextRuns.{may_within}
+use Rattle.fd_hybrid.proofs.GroupLaws.{IsBytes}
 use Rattle.fd_hybrid.proofs.Sequences.{runs-end, runs-more, step, not_nil}
-use Rattle.fd_hybrid.proofs.Answered.{after}
+use Rattle.fd_hybrid.proofs.AnswerLaws.{after}
 
 -- a run that was read in the loop
 pub record Taken (w left : ℕ) (before : Before) (bytes front new : List ℕ) (kind : Before) (rest : List ℕ) : Type 0 where

@@ -1,6 +1,6 @@
 pub mod Digits
 pub mod Runs
-pub mod Spelling
+pub mod Format
 pub mod Refusals
-pub mod Reading
-pub mod Writing
+pub mod Unpacker
+pub mod Packer

@@ -4,7 +4,7 @@ use Rattle.fd_hybrid.specs.declared.fault.HybridFault.{HybridFault}
 use Rattle.fd_hybrid.specs.declared.fault.HybridFault.TheVariants.{NoMemory}
 use Rattle.fd_hybrid.specs.Digits.{digits}
 use Rattle.fd_hybrid.specs.Runs.{Run, AreRuns}
-use Rattle.fd_hybrid.specs.Spelling.{IsVarint, byte_count, AreSpelled, IsSpelling, Fit}
+use Rattle.fd_hybrid.specs.Format.{IsVarint, byte_count, AreSpelled, IsSpelling, Fit}
 
 -- `count` values of w bits
 abbrev pub AreValues : ℕ → ℕ → List ℕ → Type 0

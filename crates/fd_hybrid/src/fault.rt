@@ -1,4 +1,6 @@
 use crate::NoMemory;
+use std::error::Error;
+use std::fmt;
 
 /// Why bytes are no spelling of so many values.
 #[derive(Clone, Copy, Debug, PartialEq, Eq)]
@@ -11,6 +13,22 @@ pub enum HybridFault {
     OverWidth,
     NoMemory,
 }
+
+impl fmt::Display for HybridFault {
+    fn fmt<W: fmt::Write>(&self, f: &mut fmt::Formatter<W>) -> fmt::Result {
+        match self {
+            HybridFault::Cut => write!(f, "the bytes end within hybrid runs"),
+            HybridFault::BadRun => write!(f, "no hybrid runs of so many values"),
+            HybridFault::OverWidth => write!(
+                f,
+                "a value in hybrid runs has more bits than the width"
+            ),
+            HybridFault::NoMemory => write!(f, "out of memory"),
+        }
+    }
+}
+
+impl Error for HybridFault {}
 
 impl From<NoMemory> for HybridFault {
     ghost use Rattle.std.specs.Prelude.{◌≡◌};

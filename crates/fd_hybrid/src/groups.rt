@@ -1,6 +1,6 @@
 ghost use Rattle.std.specs.Prelude.{◌≡◌, ℕ, ◌+◌, ◌*◌, ◌/◌, ◌%◌, ◌^◌, ◌<◌, ◌≤◌, ◌++◌, length, OnOk};
 ghost use Rattle.fd_hybrid.specs.Digits.{number, digits, ahead};
-ghost use Rattle.fd_hybrid.specs.Spelling.{Fit};
+ghost use Rattle.fd_hybrid.specs.Format.{Fit};
 
 use crate::bits::Bits;
 use crate::{Bytes, NoMemory};

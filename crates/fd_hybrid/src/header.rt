@@ -1,6 +1,6 @@
 ghost use Rattle.std.specs.Prelude.{◌≡◌, ◌<◌, ◌↔◌, IsTrue, OnOk};
-ghost use Rattle.fd_hybrid.specs.Spelling.{AddsVarint};
-ghost use Rattle.fd_hybrid.specs.Reading.{capped_at, Answers};
+ghost use Rattle.fd_hybrid.specs.Format.{AddsVarint};
+ghost use Rattle.fd_hybrid.specs.Unpacker.{capped_at, Answers};
 
 use crate::{Bytes, HybridFault, NoMemory};
 

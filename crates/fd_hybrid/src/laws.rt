@@ -1,5 +1,5 @@
 ghost use Rattle.std.specs.Prelude.{◌≡◌, ℕ, List, ◌<◌, ◌^◌};
-ghost use Rattle.fd_hybrid.specs.Spelling.{IsSpelling};
+ghost use Rattle.fd_hybrid.specs.Format.{IsSpelling};
 ghost use Rattle.fd_hybrid.specs.Refusals.{Spells, IsCut, IsOverWidth};
 
 /// Values have one spelling at a width.

@@ -10,16 +10,16 @@ mod header;
 mod items;
 mod laws;
 mod memory;
-mod packing;
+mod packer;
 mod runs;
 mod stretch;
 #[cfg(test)]
 mod tests;
-mod unpacking;
+mod unpacker;
 
 pub use fault::HybridFault;
 pub use items::{Bytes, Items, Values};
 pub use laws::{one_reading, one_spelling};
 pub use memory::NoMemory;
-pub use packing::pack;
-pub use unpacking::unpack;
+pub use packer::pack;
+pub use unpacker::unpack;

@@ -1,5 +1,5 @@
 ghost use Rattle.std.specs.Prelude.{◌≤◌, IsTrue};
-ghost use Rattle.fd_hybrid.specs.Spelling.{Fit};
+ghost use Rattle.fd_hybrid.specs.Format.{Fit};
 
 use crate::{HybridFault, pack, unpack};
 use std::alloc::Global;

@@ -6,14 +6,14 @@ use Rattle.std.proofs.lemmas.Bool.{eqb-true}
 use Rattle.std.proofs.lemmas.List.{append-nil, nil_from_length, length-map, length-replicate, length-take-le, length-append, take_at, take-append-drop, drop-drop, length-drop}
 use Rattle.std.proofs.lemmas.List.Elements.{All-from_recursion, recursion_from_All, All-replicate}
 use Rattle.fd_hybrid.specs.Refusals.{Spells}
-use Rattle.fd_hybrid.specs.Spelling.{IsSpelling}
+use Rattle.fd_hybrid.specs.Format.{IsSpelling}
 use Rattle.fd_pages.specs.declared.cell.CellKind.{CellKind}
 use Rattle.fd_pages.specs.declared.cell.Cell.{Cell}
 use Rattle.fd_pages.specs.declared.fault.PageFault.{PageFault}
 use Rattle.fd_pages.specs.declared.fault.PageFault.TheVariants.{BadPage, NoMemory}
 use Rattle.fd_pages.specs.Columns.{IsOfColumn, Fits, sized, plain_values, level}
 use Rattle.fd_pages.specs.Pages.{header_bytes, IsBody, IsPage, IsPageAt, Gives}
-use Rattle.fd_pages.specs.Reading.{Reads, sized_at, cells_at, ended, AreCells, Begins}
+use Rattle.fd_pages.specs.Reader.{Reads, sized_at, cells_at, ended, AreCells, Begins}
 use Rattle.fd_pages.proofs.Numbers.{IsBytes, ok_is, sized_takes, sized_again}
 use Rattle.fd_pages.proofs.ValueLaws.{levels_fit, parts_within}
 use Rattle.fd_pages.proofs.CellLaws.{cells_take, cells_again, weaker, all_there, none_absent}

@@ -9,7 +9,7 @@ use Rattle.fd_pages.specs.declared.cell.CellKind.TheVariants.{Whole as WholeKind
 use Rattle.fd_pages.specs.declared.cell.Cell.{Cell}
 use Rattle.fd_pages.specs.declared.cell.Cell.TheVariants.{Absent, Whole, Bytes}
 use Rattle.fd_pages.specs.Columns.{IsOfColumn, Fits, plain, plain_values, level}
-use Rattle.fd_pages.specs.Reading.{◌>>=◌, number_at, sized_at, value_at, cell_at, cells_at}
+use Rattle.fd_pages.specs.Reader.{◌>>=◌, number_at, sized_at, value_at, cell_at, cells_at}
 use Rattle.fd_pages.proofs.Numbers.{IsBytes, bind_ok, ok_is, Takes, Takes-then, wide64, number_takes, number_again, sized_takes, sized_again}
 
 zero_one : ◌≡◌ {A = ℕ} 0 1 → ⊥

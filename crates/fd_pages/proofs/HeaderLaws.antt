@@ -15,10 +15,10 @@ use Rattle.fd_pages.specs.declared.fault.PageFault.TheVariants as pages
 use Rattle.fd_thrift.specs.Values.{struct}
 use Rattle.fd_thrift.specs.declared.tree.Tree.{Struct, the_lemmas}
 use Rattle.fd_thrift.specs.View.{view, fields_view}
-use Rattle.fd_thrift.specs.Spelling.{Spells, IsFormed, spelling}
-use Rattle.fd_thrift.specs.Reading.{Begins, Fails}
+use Rattle.fd_thrift.specs.Format.{Spells, IsFormed, spelling}
+use Rattle.fd_thrift.specs.Reader.{Begins, Fails}
 use Rattle.fd_pages.specs.Pages.{page_header_in, data_page_header_in, page_header, header_bytes}
-use Rattle.fd_pages.specs.Reading.{fault_of}
+use Rattle.fd_pages.specs.Reader.{fault_of}
 
 -- a header has a second field
 pub second_field : (fields : List TreeField) (count size : ℕ) → struct (fields_view fields) ≡ page_header count size → false ≡ ltb 1 (length fields) → ⊥

@@ -4,7 +4,7 @@ use Rattle.std.specs.List.{concat, flat_map}
 use Rattle.std.proofs.lemmas.List.{length-append, length-map, length-replicate}
 use Rattle.fd_hybrid.specs.Digits.{number, digits}
 use Rattle.fd_hybrid.specs.Runs.{Run, repeated, packed, AreTaken, AreRuns}
-use Rattle.fd_hybrid.specs.Spelling.{IsVarint, group_bytes, AreSpelled}
+use Rattle.fd_hybrid.specs.Format.{IsVarint, group_bytes, AreSpelled}
 use Rattle.fd_pages.specs.declared.cell.Cell.{Cell}
 use Rattle.fd_pages.specs.Columns.{sized, plain_values, level}
 use Rattle.fd_pages.specs.Pages.{IsBody}

@@ -9,4 +9,4 @@ pub mod OnePage
 pub mod Fronts
 pub mod OneDictionary
 pub mod OneCodePage
-pub mod Described
+pub mod Examples

@@ -5,7 +5,7 @@ use Rattle.fd_pages.specs.declared.cell.CellKind.{CellKind}
 use Rattle.fd_pages.specs.declared.cell.Cell.{Cell}
 use Rattle.fd_pages.specs.declared.fault.PageFault.{PageFault}
 use Rattle.fd_pages.specs.declared.fault.PageFault.TheVariants.{BadPage, NoMemory}
-use Rattle.fd_pages.specs.Reading.{◌>>=◌, Fails, cell_at, cells_at, with_front}
+use Rattle.fd_pages.specs.Reader.{◌>>=◌, Fails, cell_at, cells_at, with_front}
 
 regroup : (front : List Cell) (cell : Cell) (read : Result (List Cell × List ℕ) PageFault) → with_front front (read >>= λ x. Ok (cell ∷ x.0, x.1)) ≡ with_front (front ++ cell ∷ []) read
 regroup front cell (Ok x) = ap (λ (cells : List Cell). Ok (cells, x.1)) (simp append_assoc)

@@ -7,7 +7,7 @@ use Rattle.std.proofs.lemmas.Nat.{le_bytes_4, le_bytes_8, from_le_bytes-to_le_by
 use Rattle.fd_pages.specs.declared.fault.PageFault.{PageFault}
 use Rattle.fd_pages.specs.declared.fault.PageFault.TheVariants.{BadPage}
 use Rattle.fd_pages.specs.Columns.{sized}
-use Rattle.fd_pages.specs.Reading.{◌>>=◌, number_at, sized_at}
+use Rattle.fd_pages.specs.Reader.{◌>>=◌, number_at, sized_at}
 
 abbrev pub IsBytes : List ℕ → Type 0
 IsBytes bytes = (i : ℕ) → get_or bytes i 0 < 256

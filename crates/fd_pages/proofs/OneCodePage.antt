@@ -9,15 +9,15 @@ use Rattle.std.proofs.lemmas.Option.{slice_get_within}
 use Rattle.std.proofs.lemmas.List.{length-map}
 use Rattle.std.proofs.lemmas.List.Elements.{recursion_from_All, All-from_recursion}
 use Rattle.fd_lists.specs.Texts.{text_cmp}
-use Rattle.fd_thrift.specs.Spelling.{Spells as Writes}
-use Rattle.fd_hybrid.specs.Spelling.{IsSpelling}
+use Rattle.fd_thrift.specs.Format.{Spells as Writes}
+use Rattle.fd_hybrid.specs.Format.{IsSpelling}
 use Rattle.fd_hybrid.specs.Refusals.{Spells}
 use Rattle.fd_pages.specs.declared.cell.CellKind.TheVariants.{Bytes as BytesKind}
 use Rattle.fd_pages.specs.declared.cell.Cell.{Cell}
 use Rattle.fd_pages.specs.declared.cell.Cell.TheVariants.{Absent, Whole, Bytes}
 use Rattle.fd_pages.specs.Columns.{IsOfColumn, sized, level}
 use Rattle.fd_pages.specs.Pages.{page_header_in}
-use Rattle.fd_pages.specs.Reading.{sized_at}
+use Rattle.fd_pages.specs.Reader.{sized_at}
 use Rattle.fd_pages.specs.Dictionaries.{code_header_bytes, AreRising, texts_in, IsWidth, AreIndexes, IsCodeBody, IsCodePage}
 use Rattle.fd_pages.proofs.Numbers.{sized_again}
 use Rattle.fd_pages.proofs.ValueLaws.{levels_fit, parts_within}

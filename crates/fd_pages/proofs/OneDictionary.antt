@@ -2,9 +2,9 @@
 use Rattle.std.proofs.Common.{◌≡◌, ℕ, ◌^◌, ◌<◌, List, [], ◌∷◌, ◌++◌, length, refl, sym, ap, ◌∙◌, arith, lit<, lit≤}
 use Rattle.std.specs.List.{AllByRecursion, flat_map}
 use Rattle.std.proofs.lemmas.List.Elements.{recursion_from_All}
-use Rattle.fd_thrift.specs.Spelling.{Spells, IsFormed}
+use Rattle.fd_thrift.specs.Format.{Spells, IsFormed}
 use Rattle.fd_pages.specs.Columns.{sized}
-use Rattle.fd_pages.specs.Reading.{sized_at}
+use Rattle.fd_pages.specs.Reader.{sized_at}
 use Rattle.fd_pages.specs.Dictionaries.{dictionary_page_header, dictionary_header, dictionary_header_bytes, dictionary_body, IsDictionary}
 use Rattle.fd_pages.proofs.Numbers.{sized_again}
 use Rattle.fd_pages.proofs.Bodies.{split_is}

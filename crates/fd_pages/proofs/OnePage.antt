@@ -3,16 +3,16 @@ use Rattle.std.proofs.Common.{◌≡◌, ℕ, ◌^◌, ◌<◌, Bool, true, fals
 use Rattle.std.specs.List.{AllByRecursion}
 use Rattle.std.proofs.lemmas.List.Elements.{recursion_from_All}
 use Rattle.fd_thrift.specs.Values.{Value}
-use Rattle.fd_thrift.specs.Spelling.{Spells as Writes}
+use Rattle.fd_thrift.specs.Format.{Spells as Writes}
 use Rattle.fd_hybrid.specs.declared.fault.HybridFault.{HybridFault}
 use Rattle.fd_hybrid.specs.Refusals.{Spells}
 use Rattle.fd_hybrid.proofs.Sequences.{only_read}
-use Rattle.fd_hybrid.proofs.Exact.{whole, fit_digits}
+use Rattle.fd_hybrid.proofs.Exactness.{whole, fit_digits}
 use Rattle.fd_pages.specs.declared.cell.CellKind.{CellKind}
 use Rattle.fd_pages.specs.declared.cell.Cell.{Cell}
 use Rattle.fd_pages.specs.Columns.{IsOfColumn, Fits, plain_values, level}
 use Rattle.fd_pages.specs.Pages.{page_header, header_bytes, IsBody, IsPage}
-use Rattle.fd_pages.specs.Reading.{sized_at, cells_at, AreCells}
+use Rattle.fd_pages.specs.Reader.{sized_at, cells_at, AreCells}
 use Rattle.fd_pages.proofs.Numbers.{sized_again}
 use Rattle.fd_pages.proofs.ValueLaws.{parts_within}
 use Rattle.fd_pages.proofs.CellLaws.{cells_again, weaker, all_there}

@@ -5,8 +5,8 @@ use Rattle.std.specs.List.{AllZip, flat_map}
 use Rattle.std.specs.List.Sorted.{IsStrictlySortedBy}
 use Rattle.fd_lists.specs.Texts.{text_cmp}
 use Rattle.fd_thrift.specs.Values.{Value, whole32, struct, no_fields, field}
-use Rattle.fd_thrift.specs.Spelling.{spelling}
-use Rattle.fd_hybrid.specs.Spelling.{IsSpelling}
+use Rattle.fd_thrift.specs.Format.{spelling}
+use Rattle.fd_hybrid.specs.Format.{IsSpelling}
 use Rattle.fd_pages.specs.declared.cell.CellKind.TheVariants.{Bytes as BytesKind}
 use Rattle.fd_pages.specs.declared.cell.Cell.{Cell}
 use Rattle.fd_pages.specs.declared.cell.Cell.TheVariants.{Absent, Whole, Bytes}

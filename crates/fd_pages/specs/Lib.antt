@@ -1,4 +1,4 @@
 pub mod Columns
 pub mod Dictionaries
 pub mod Pages
-pub mod Reading
+pub mod Reader

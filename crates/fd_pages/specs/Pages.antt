@@ -1,8 +1,8 @@
 -- The page of a range of cells: its header and its body (Apache Parquet, README.md, "Data Pages").
 use Rattle.std.specs.Prelude.{◌≡◌, ℕ, ◌<◌, ◌≤◌, ◌^◌, pos, Bool, true, false, List, ◌++◌, length, map, All, slice_range, Result, Ok, Err}
 use Rattle.fd_thrift.specs.Values.{Value, whole32, struct, no_fields, field}
-use Rattle.fd_thrift.specs.Spelling.{spelling}
-use Rattle.fd_hybrid.specs.Spelling.{IsSpelling}
+use Rattle.fd_thrift.specs.Format.{spelling}
+use Rattle.fd_hybrid.specs.Format.{IsSpelling}
 use Rattle.fd_pages.specs.declared.cell.CellKind.{CellKind}
 use Rattle.fd_pages.specs.declared.cell.Cell.{Cell}
 use Rattle.fd_pages.specs.declared.fault.PageFault.{PageFault}

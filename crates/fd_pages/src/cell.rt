@@ -1,5 +1,9 @@
 use fd_lists::{Bytes, Items};
 
+/// How many rows a data page has at most, each of them one cell. All pages of a chunk but its last
+/// have as many.
+pub const MAX_ROWS: usize = 1000;
+
 /// What the cells of a column are: the physical types INT64 and BYTE_ARRAY of Apache Parquet.
 #[derive(Clone, Copy, Debug, PartialEq, Eq)]
 pub enum CellKind {

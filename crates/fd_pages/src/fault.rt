@@ -1,4 +1,6 @@
 use fd_lists::NoMemory;
+use std::error::Error;
+use std::fmt;
 
 /// Why no page is read.
 #[derive(Clone, Copy, Debug, PartialEq, Eq)]
@@ -7,6 +9,17 @@ pub enum PageFault {
     BadPage,
     NoMemory,
 }
+
+impl fmt::Display for PageFault {
+    fn fmt<W: fmt::Write>(&self, f: &mut fmt::Formatter<W>) -> fmt::Result {
+        match self {
+            PageFault::BadPage => write!(f, "no data page of so many cells"),
+            PageFault::NoMemory => write!(f, "out of memory"),
+        }
+    }
+}
+
+impl Error for PageFault {}
 
 impl From<NoMemory> for PageFault {
     ghost use Rattle.std.specs.Prelude.{◌≡◌};

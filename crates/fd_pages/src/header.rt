@@ -2,7 +2,7 @@ ghost use Rattle.std.specs.Prelude.{◌≡◌, ◌++◌, ◌<◌, ◌≤◌, ◌
 ghost use Rattle.fd_thrift.specs.View.{view, fields_view};
 ghost use Rattle.fd_thrift.specs.Values.{Value, whole32, struct};
 ghost use Rattle.fd_pages.specs.Pages.{page_header, data_page_header, header_bytes, Gives, SeenGives};
-ghost use Rattle.fd_pages.specs.Reading.{fault_of};
+ghost use Rattle.fd_pages.specs.Reader.{fault_of};
 
 use crate::PageFault;
 use fd_lists::{Bytes, NoMemory};
@@ -94,7 +94,8 @@ fn whole_of(tree: &Tree) -> Option<usize>
 
 /// The size of the body that the fields of a PageHeader tell: the second of them.
 fn second_size(fields: &[TreeField]) -> Option<usize>
-    ensures value { (count size : ℕ) → struct (fields_view fields.now) ≡ page_header count size → result ≡ Some size }
+    ensures value { (count size : ℕ) → struct (fields_view fields.now) ≡ page_header count size
+        → result ≡ Some size }
     ensures small { IfSome result (λ size. size < 2 ^ 31) }
 {
     match fields.get(1) {
@@ -127,8 +128,11 @@ fn page_fault(fault: ThriftFault) -> PageFault
 /// The tree in front of the bytes, and how many bytes it takes.
 fn tree_in(alloc: Global, bytes: &[u8]) -> Result<(Tree, usize), PageFault>
     ensures within { IfOk result (λ r. r.1 ≤ length bytes.now) }
-    ensures only { (count size : ℕ) (rest : List ℕ) → count < 2 ^ 31 → size < 2 ^ 31 → bytes.now ≡ header_bytes count size ++ rest
-        → SeenGives {Y = Value × ℕ} (λ r. (view r.0, r.1)) result (Ok (page_header count size, length (header_bytes count size))) }
+    ensures only { (count size : ℕ) (rest : List ℕ) → count < 2 ^ 31 → size < 2 ^ 31
+        → bytes.now ≡ header_bytes count size ++ rest
+        → SeenGives {Y = Value × ℕ}
+        (λ r. (view r.0, r.1)) result
+        (Ok (page_header count size, length (header_bytes count size))) }
 {
     match read(alloc, bytes, 0, bytes.len()) {
         Ok(found) => Ok(found),
@@ -141,7 +145,8 @@ fn tree_in(alloc: Global, bytes: &[u8]) -> Result<(Tree, usize), PageFault>
 fn size_in(alloc: Global, bytes: &[u8]) -> Result<(usize, usize), PageFault>
     ensures small { IfOk result (λ r. r.0 < 2 ^ 31) }
     ensures within { IfOk result (λ r. r.1 ≤ length bytes.now) }
-    ensures only { (count size : ℕ) (rest : List ℕ) → count < 2 ^ 31 → size < 2 ^ 31 → bytes.now ≡ header_bytes count size ++ rest
+    ensures only { (count size : ℕ) (rest : List ℕ) → count < 2 ^ 31 → size < 2 ^ 31
+        → bytes.now ≡ header_bytes count size ++ rest
         → Gives result (Ok (size, length (header_bytes count size))) }
 {
     let (tree, end) = tree_in(alloc, bytes)?;
@@ -161,7 +166,8 @@ pub(crate) fn header_of(
     requires { count < 2 ^ 31 }
     ensures found { IfOk result (λ r. bytes.now ≡ header_bytes count r.0 ++ r.1.now) }
     ensures small { IfOk result (λ r. r.0 < 2 ^ 31) }
-    ensures only { (size : ℕ) (rest : List ℕ) → size < 2 ^ 31 → bytes.now ≡ header_bytes count size ++ rest
+    ensures only { (size : ℕ) (rest : List ℕ) → size < 2 ^ 31
+        → bytes.now ≡ header_bytes count size ++ rest
         → SeenGives {Y = ℕ × List ℕ} (λ r. (r.0, r.1.now)) result (Ok (size, rest)) }
 {
     let (size, end) = size_in(alloc, bytes)?;

@@ -1,5 +1,5 @@
 ghost use Rattle.std.specs.Prelude.{◌≡◌, ℕ, List, map, IfOk, Ok};
-ghost use Rattle.fd_hybrid.specs.Spelling.{IsSpelling};
+ghost use Rattle.fd_hybrid.specs.Format.{IsSpelling};
 ghost use Rattle.fd_hybrid.specs.Refusals.{Spells};
 ghost use Rattle.fd_pages.specs.Columns.{level};
 ghost use Rattle.fd_pages.specs.Pages.{Gives};

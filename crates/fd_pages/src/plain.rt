@@ -1,6 +1,6 @@
 ghost use Rattle.std.specs.Prelude.{◌≡◌, List, length, replicate, Ok};
 ghost use Rattle.std.specs.Int.{w32, w64, cast_signed};
-ghost use Rattle.fd_pages.specs.Reading.{Answers, Reads, number_at, sized_at, value_at, cell_at, cells_at, ended};
+ghost use Rattle.fd_pages.specs.Reader.{Answers, Reads, number_at, sized_at, value_at, cell_at, cells_at, ended};
 
 use crate::{Cell, CellKind, CellList, PageFault};
 use fd_lists::{Bytes, Items};
@@ -33,7 +33,7 @@ fn u64_at(bytes: &[u8]) -> Result<(u64, &[u8]), PageFault>
 }
 
 /// The bytes that stand behind their length, and those behind them.
-#[tactic(auto, unfolding(crate::specs::Reading::sized_at))]
+#[tactic(auto, unfolding(crate::specs::Reader::sized_at))]
 pub(crate) fn sized_of(bytes: &[u8]) -> Result<(&[u8], &[u8]), PageFault>
     ensures { Answers (λ x. (x.0.now, x.1.now)) result (sized_at bytes.now) }
 {
@@ -46,7 +46,7 @@ pub(crate) fn sized_of(bytes: &[u8]) -> Result<(&[u8], &[u8]), PageFault>
 }
 
 /// A value of this kind, and the bytes behind it.
-#[tactic(auto, unfolding(crate::specs::Reading::value_at))]
+#[tactic(auto, unfolding(crate::specs::Reader::value_at))]
 fn value_of(alloc: Global, kind: CellKind, bytes: &[u8]) -> Result<(Cell, &[u8]), PageFault>
     ensures { Reads (λ x. (x.0, x.1.now)) result (value_at kind bytes.now) }
 {
@@ -63,7 +63,7 @@ fn value_of(alloc: Global, kind: CellKind, bytes: &[u8]) -> Result<(Cell, &[u8])
 }
 
 /// A cell with this definition level, and the bytes behind it.
-#[tactic(auto, unfolding(crate::specs::Reading::cell_at))]
+#[tactic(auto, unfolding(crate::specs::Reader::cell_at))]
 fn cell_of(
     alloc: Global,
     kind: CellKind,

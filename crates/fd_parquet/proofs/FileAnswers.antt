@@ -4,15 +4,15 @@ use Rattle.std.specs.Prelude.{IfErr, option_map}
 use Rattle.fd_kinds.specs.declared.row.Numbered.{Numbered}
 use Rattle.fd_column.specs.Cells.{columns_of}
 use Rattle.fd_thrift.specs.Values.{Value}
-use Rattle.fd_thrift.specs.Spelling.{Spells}
+use Rattle.fd_thrift.specs.Format.{Spells}
 use Rattle.fd_pages.specs.declared.cell.Cell.{Cell}
 use Rattle.fd_footer.specs.declared.footer.Chunk.{Chunk}
 use Rattle.fd_footer.specs.declared.footer.Footer.{Footer}
 use Rattle.fd_footer.specs.declared.table.FooterTable.{FooterTable}
 use Rattle.fd_footer.specs.Footers.{footer_value, footer_bytes, IsWritable}
-use Rattle.fd_footer.specs.Own.{are_own}
+use Rattle.fd_footer.specs.Layout.{are_own}
 use Rattle.fd_footer.specs.Shapes.{has_shape}
-use Rattle.fd_footer.specs.Tabled.{table_of, have_text_names}
+use Rattle.fd_footer.specs.Contents.{table_of, have_text_names}
 use Rattle.fd_parquet.specs.declared.fault.FileFault.{FileFault}
 use Rattle.fd_parquet.specs.declared.fault.FileFault.TheVariants.{Magic, Footer as FooterFault, Schema, Page, NoMemory}
 use Rattle.fd_parquet.specs.Columns.{cells_of}

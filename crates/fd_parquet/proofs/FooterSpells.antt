@@ -3,7 +3,7 @@ use Rattle.std.proofs.Common.{◌≡◌, ℕ, suc, ◌+◌, ◌<◌, ◌≤◌, 
 use Rattle.std.proofs.lemmas.Int.{fits_signed_from_abs}
 use Rattle.fd_thrift.specs.Values.{Value, whole32, whole64, binary, list, struct, Items, no_items, item, Fields, no_fields, field}
 use Rattle.fd_thrift.specs.View.{items_of}
-use Rattle.fd_thrift.specs.Spelling.{varint, list_header, items_len, items_kind, spelling, items_spelling, fields_spelling, Fits, FitItems, FitFields, Spells, id_of}
+use Rattle.fd_thrift.specs.Format.{varint, list_header, items_len, items_kind, spelling, items_spelling, fields_spelling, Fits, FitItems, FitFields, Spells, id_of}
 use Rattle.fd_footer.specs.declared.footer.ColumnType.{ColumnType}
 use Rattle.fd_footer.specs.declared.footer.ColumnType.TheVariants.{Int64, ByteArray}
 use Rattle.fd_footer.specs.declared.footer.Column.{Column}
@@ -12,7 +12,7 @@ use Rattle.fd_footer.specs.declared.footer.Pages.{Pages}
 use Rattle.fd_footer.specs.declared.footer.Footer.{Footer}
 use Rattle.fd_footer.specs.Tables.{type_number, repetition_number, column_value, root_value, number_value, encodings, meta_value, chunk_values, group_value, has_dictionary, total_size}
 use Rattle.fd_footer.specs.Footers.{footer_value, footer_bytes, IsWritable, IsPlaced}
-use Rattle.fd_footer.proofs.Legal.{footer_is_legal}
+use Rattle.fd_footer.proofs.Legality.{footer_is_legal}
 use Rattle.std.specs.Prelude.{All}
 use Rattle.std.proofs.lemmas.List.Elements.{All-head, All-tail}
 

@@ -3,7 +3,7 @@ use Rattle.std.proofs.Common.{◌≡◌, ℕ, ◌+◌, ◌<◌, ◌≤◌, Bool,
 use Rattle.std.specs.Prelude.{All}
 use Rattle.std.proofs.lemmas.List.{append_cancel_left, take_at, drop_at}
 use Rattle.std.proofs.lemmas.List.Elements.{All-append, All-nil}
-use Rattle.fd_hybrid.specs.Spelling.{IsSpelling}
+use Rattle.fd_hybrid.specs.Format.{IsSpelling}
 use Rattle.fd_pages.specs.declared.cell.CellKind.{CellKind}
 use Rattle.fd_pages.specs.declared.cell.Cell.{Cell}
 use Rattle.fd_pages.specs.Columns.{Fits, sized, plain_values, level}

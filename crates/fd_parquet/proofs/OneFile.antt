@@ -4,7 +4,7 @@ use Rattle.std.specs.Prelude.{All}
 use Rattle.std.specs.List.{concat, flat_map}
 use Rattle.fd_kinds.specs.declared.row.Numbered.{Numbered}
 use Rattle.fd_column.specs.Cells.{Column, columns_of}
-use Rattle.fd_thrift.specs.Spelling.{Spells}
+use Rattle.fd_thrift.specs.Format.{Spells}
 use Rattle.fd_pages.specs.Columns.{Fits}
 use Rattle.fd_footer.specs.declared.footer.Chunk.{Chunk}
 use Rattle.fd_footer.specs.declared.footer.Footer.{Footer}

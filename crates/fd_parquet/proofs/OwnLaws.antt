@@ -7,8 +7,8 @@ use Rattle.std.proofs.lemmas.List.Elements.{All-head, All-tail}
 use Rattle.fd_kinds.specs.declared.row.Numbered.{Numbered}
 use Rattle.fd_column.specs.Cells.{Column, label, pprof_label, column_name, columns_of, names_in, series_pairs, pprof_pairs}
 use Rattle.fd_column.proofs.NameLaws.{is_under, are_rising, rest_rises, first_under, names_rise}
-use Rattle.fd_footer.specs.Own.{are_own, are_labels_above}
-use Rattle.fd_footer.specs.Tabled.{have_text_names}
+use Rattle.fd_footer.specs.Layout.{are_own, are_labels_above}
+use Rattle.fd_footer.specs.Contents.{have_text_names}
 use Rattle.fd_parquet.specs.Columns.{file_column}
 use Rattle.fd_parquet.specs.Chunks.{IsChunkOf}
 

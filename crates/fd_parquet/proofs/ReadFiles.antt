@@ -7,7 +7,7 @@ use Rattle.std.proofs.lemmas.List.Elements.{All-nil, All-cons, All-head, All-tai
 use Rattle.fd_kinds.specs.declared.row.Numbered.{Numbered}
 use Rattle.fd_column.specs.Cells.{Column, columns_of, column_name}
 use Rattle.fd_thrift.specs.Values.{Value}
-use Rattle.fd_thrift.specs.Spelling.{Spells}
+use Rattle.fd_thrift.specs.Format.{Spells}
 use Rattle.fd_pages.specs.declared.cell.Cell.{Cell}
 use Rattle.fd_pages.specs.Columns.{Fits}
 use Rattle.fd_footer.specs.declared.footer.Pages.{Pages}
@@ -18,8 +18,8 @@ use Rattle.fd_footer.specs.declared.footer.Column.{Column as FileColumn}
 use Rattle.fd_footer.specs.declared.table.FooterTable.{FooterTable}
 use Rattle.fd_footer.specs.Tables.{total_size}
 use Rattle.fd_footer.specs.Footers.{footer_value, footer_bytes, IsWritable, IsPlaced}
-use Rattle.fd_footer.specs.Own.{are_own}
-use Rattle.fd_footer.specs.Tabled.{table_of, have_text_names}
+use Rattle.fd_footer.specs.Layout.{are_own}
+use Rattle.fd_footer.specs.Contents.{table_of, have_text_names}
 use Rattle.std.specs.Borrow.{Bor}
 use Rattle.fd_parquet.specs.declared.columns.ReadColumns.{ReadColumns as AnyColumns}
 use Rattle.fd_parquet.specs.declared.fault.FileFault.{FileFault}

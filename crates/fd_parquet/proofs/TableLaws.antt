@@ -7,7 +7,7 @@ use Rattle.fd_column.specs.RowNumbers.{numbered_cmp}
 use Rattle.fd_pages.specs.declared.cell.Cell.{Cell}
 use Rattle.fd_footer.specs.declared.footer.Chunk.{Chunk}
 use Rattle.fd_footer.specs.declared.table.FooterTable.{FooterTable}
-use Rattle.fd_footer.specs.Tabled.{have_text_names}
+use Rattle.fd_footer.specs.Contents.{have_text_names}
 use Rattle.fd_parquet.specs.declared.reading.FileTable.{FileTable}
 use Rattle.fd_parquet.specs.Columns.{file_column}
 use Rattle.fd_parquet.specs.Files.{IsWithin}

@@ -3,7 +3,7 @@ use Rattle.std.specs.Prelude.{◌≡◌, ℕ, zero, suc, ◌+◌, ◌-◌, ◌�
 use Rattle.std.specs.List.{concat, AllZip}
 use Rattle.fd_kinds.specs.declared.row.Numbered.{Numbered}
 use Rattle.fd_thrift.specs.Values.{Value}
-use Rattle.fd_thrift.specs.Spelling.{Spells}
+use Rattle.fd_thrift.specs.Format.{Spells}
 use Rattle.fd_pages.specs.declared.cell.Cell.{Cell}
 use Rattle.fd_pages.specs.Columns.{Fits}
 use Rattle.fd_footer.specs.declared.footer.Pages.{Pages}
@@ -12,7 +12,7 @@ use Rattle.fd_footer.specs.declared.footer.Column.{Column}
 use Rattle.fd_footer.specs.declared.table.FooterTable.{FooterTable}
 use Rattle.fd_footer.specs.Tables.{has_dictionary}
 use Rattle.fd_footer.specs.Shapes.{has_shape}
-use Rattle.fd_footer.specs.Tabled.{table_of}
+use Rattle.fd_footer.specs.Contents.{table_of}
 use Rattle.fd_parquet.specs.Columns.{kind_in, file_column, cells_of, HasText}
 use Rattle.fd_parquet.specs.Chunks.{IsChunk, IsChunkOf}
 use Rattle.fd_parquet.specs.Files.{magic, framed, places_from, footer_at, IsWithin, IsPlainFileOf}

@@ -6,11 +6,11 @@ ghost use Rattle.fd_footer.specs.Tables.{total_size};
 ghost use Rattle.fd_parquet.specs.Files.{IsPlainFileOf};
 ghost use Rattle.fd_footer.specs.declared.footer.Chunk.{Chunk as AnyChunk};
 ghost use Rattle.fd_footer.specs.declared.table.FooterTable.{FooterTable as AnyTable};
-ghost use Rattle.fd_footer.specs.Tabled.{have_text_names};
+ghost use Rattle.fd_footer.specs.Contents.{have_text_names};
 ghost use Rattle.fd_parquet.specs.Columns.{file_column};
 ghost use Rattle.fd_parquet.specs.Refusals.{Refuses, IsRefused, Gives, HasTable, FitsTable, TellsOf, told_of, IsRead, IsFooterOf, AreParts, RefusesParts, IsPartsFault, IsFooterFault, TellsOrRefuses};
 ghost use Rattle.fd_thrift.specs.Values.{Value};
-ghost use Rattle.fd_thrift.specs.Spelling.{Spells};
+ghost use Rattle.fd_thrift.specs.Format.{Spells};
 ghost use Rattle.fd_parquet.specs.declared.fault.FileFault.{FileFault as AnyFault};
 
 use crate::FileFault;

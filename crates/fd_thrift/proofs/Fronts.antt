@@ -3,12 +3,12 @@ use Rattle.std.proofs.Common.{◌≡◌, ◌≢◌, ℕ, zero, suc, ◌+◌, ◌
 use Rattle.fd_thrift.specs.declared.fault.ThriftFault.{ThriftFault}
 use Rattle.fd_thrift.specs.declared.fault.ThriftFault.TheVariants.{Cut, BadType, BadSize, Deep, NoMemory}
 use Rattle.fd_thrift.specs.Values.{Value}
-use Rattle.fd_thrift.specs.Spelling.{Spells}
-use Rattle.fd_thrift.specs.Reading.{◌>>=◌, Reading, tree_at, read_at, AreBytes, Gives, IsCutShort, StopsBy}
-use Rattle.fd_thrift.proofs.Spelled.{tree_again}
-use Rattle.fd_thrift.proofs.Found.{ok_is, no_ok, tree_takes}
-use Rattle.fd_thrift.proofs.Growing.{Keeps, tree_keeps}
-use Rattle.fd_thrift.proofs.Ending.{tree_ends}
+use Rattle.fd_thrift.specs.Format.{Spells}
+use Rattle.fd_thrift.specs.Reader.{◌>>=◌, Reading, tree_at, read_at, AreBytes, Gives, IsCutShort, StopsBy}
+use Rattle.fd_thrift.proofs.Roundtrips.{tree_again}
+use Rattle.fd_thrift.proofs.Soundness.{ok_is, no_ok, tree_takes}
+use Rattle.fd_thrift.proofs.Extensions.{Keeps, tree_keeps}
+use Rattle.fd_thrift.proofs.Completions.{tree_ends}
 
 kept_fault : (bytes more : List ℕ) (e : ThriftFault) → tree_at bytes ≡ Err e → e ≢ Cut → tree_at (bytes ++ more) ≡ Err e
 kept_fault bytes more e h other = by_fault e other (subst (λ (r : Reading Value). Keeps more r (tree_at (bytes ++ more))) h (tree_keeps bytes more))

@@ -1,9 +1,9 @@
-pub mod Bytewise
+pub mod VarintLoop
 pub mod Loops
 pub mod Lengths
-pub mod Spelled
-pub mod Found
-pub mod Placed
-pub mod Growing
-pub mod Ending
+pub mod Roundtrips
+pub mod Soundness
+pub mod Places
+pub mod Extensions
+pub mod Completions
 pub mod Fronts

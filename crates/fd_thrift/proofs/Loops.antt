@@ -14,7 +14,7 @@ use Rattle.std.proofs.lemmas.Bool.Decides.{nat_tests}
 use Rattle.fd_thrift.specs.declared.fault.ThriftFault.{ThriftFault}
 use Rattle.fd_thrift.specs.declared.fault.ThriftFault.TheVariants.{Cut, BadType, BadSize, Deep, NoMemory}
 use Rattle.fd_thrift.specs.declared.kind.Kind.{Kind}
-use Rattle.fd_thrift.specs.Reading.{◌>>=◌, Reading, items_at, fields_within, kind_at, next_id, Fails, value_at, value_by}
+use Rattle.fd_thrift.specs.Reader.{◌>>=◌, Reading, items_at, fields_within, kind_at, next_id, Fails, value_at, value_by}
 
 -- the items read before, and those still read
 abbrev pub items_before : List Tree → Items → Items

@@ -1,4 +1,4 @@
 pub mod Values
 pub mod View
-pub mod Spelling
-pub mod Reading
+pub mod Format
+pub mod Reader

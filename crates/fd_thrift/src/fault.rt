@@ -1,5 +1,7 @@
 use crate::NoMemory;
 use std::alloc::AllocFailed;
+use std::error::Error;
+use std::fmt;
 
 /// Why bytes can't be read as a tree: the first fault from left to right, told at the first byte
 /// with which they are no front of a spelling. At one byte the order is that below.
@@ -19,6 +21,23 @@ pub enum ThriftFault {
     Deep,
     NoMemory,
 }
+
+impl fmt::Display for ThriftFault {
+    fn fmt<W: fmt::Write>(&self, f: &mut fmt::Formatter<W>) -> fmt::Result {
+        match self {
+            ThriftFault::Cut => write!(f, "the bytes end within a Thrift value"),
+            ThriftFault::BadType => write!(f, "no Thrift type or field id that is written here"),
+            ThriftFault::BadSize => write!(
+                f,
+                "a Thrift number or size in another than its shortest form"
+            ),
+            ThriftFault::Deep => write!(f, "a Thrift value on the ninth level"),
+            ThriftFault::NoMemory => write!(f, "out of memory"),
+        }
+    }
+}
+
+impl Error for ThriftFault {}
 
 impl From<NoMemory> for ThriftFault {
     ghost use Rattle.std.specs.Prelude.{◌≡◌};

@@ -1,6 +1,6 @@
 ghost use Rattle.std.specs.Prelude.{◌≡◌};
-ghost use Rattle.fd_thrift.specs.Spelling.{code_of, kind_of};
-ghost use Rattle.fd_thrift.specs.Reading.{kind_at, is_struct};
+ghost use Rattle.fd_thrift.specs.Format.{code_of, kind_of};
+ghost use Rattle.fd_thrift.specs.Reader.{kind_at, is_struct};
 ghost use Rattle.fd_thrift.specs.View.{view};
 
 use crate::{ThriftFault, Tree};

@@ -2,8 +2,8 @@ ghost use Rattle.std.specs.Prelude.{◌≡◌, ◌≢◌, ℕ, List, Ok, Err, �
 ghost use Rattle.fd_thrift.specs.declared.fault.ThriftFault.{ThriftFault as Fault};
 ghost use Rattle.fd_thrift.specs.declared.fault.ThriftFault.TheVariants.{Cut};
 ghost use Rattle.fd_thrift.specs.Values.{Value};
-ghost use Rattle.fd_thrift.specs.Spelling.{Spells};
-ghost use Rattle.fd_thrift.specs.Reading.{tree_at, AreBytes, IsCutShort, StopsBy};
+ghost use Rattle.fd_thrift.specs.Format.{Spells};
+ghost use Rattle.fd_thrift.specs.Reader.{tree_at, AreBytes, IsCutShort, StopsBy};
 
 /// No two trees have one spelling, none has two, and no spelling begins another.
 pub fn one_spelling()

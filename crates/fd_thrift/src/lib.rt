@@ -8,16 +8,16 @@ mod kind;
 mod laws;
 mod memory;
 mod numbers;
-mod reading;
+mod reader;
 #[cfg(test)]
 mod tests;
 mod tree;
-mod writing;
+mod writer;
 
 pub use bytes::Bytes;
 pub use fault::ThriftFault;
 pub use laws::{first_fault_is_told, one_spelling, spellings_are_read};
 pub use memory::NoMemory;
-pub use reading::read;
+pub use reader::read;
 pub use tree::{Tree, TreeField, TreeFields, Trees};
-pub use writing::write;
+pub use writer::write;

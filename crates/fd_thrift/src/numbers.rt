@@ -1,7 +1,7 @@
 ghost use Rattle.std.specs.Prelude.{◌≡◌, ◌+◌, ◌++◌, ◌<◌, ◌≤◌, ◌^◌, ◌==◌, ◌&&◌, ◌||◌, nat_le, length, IfOk, OnOk, FitsSigned};
 ghost use Rattle.std.specs.Int.{w32};
-ghost use Rattle.fd_thrift.specs.Spelling.{zigzag as zigzag_of, varint};
-ghost use Rattle.fd_thrift.specs.Reading.{varint_at, unzigzag as unzigzag_of, Reads};
+ghost use Rattle.fd_thrift.specs.Format.{zigzag as zigzag_of, varint};
+ghost use Rattle.fd_thrift.specs.Reader.{varint_at, unzigzag as unzigzag_of, Reads};
 
 use crate::{Bytes, NoMemory, ThriftFault};
 
@@ -26,7 +26,7 @@ pub(crate) fn unzigzag(number: u64) -> i64
 }
 
 /// Whether a byte below 128 can't be the last one of a number below 2 ^ bits.
-#[tactic(auto, using(crate::proofs::Bytewise::seven_or_more))]
+#[tactic(auto, using(crate::proofs::VarintLoop::seven_or_more))]
 fn is_refused(later: bool, bits: u32, last: u64) -> bool
     requires { last < 128 }
     ensures { result ≡ ((later && (last == 0)) || nat_le (2 ^ bits) last) }

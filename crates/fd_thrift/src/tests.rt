@@ -1,5 +1,5 @@
 ghost use Rattle.std.specs.Prelude.{IfOk};
-ghost use Rattle.fd_thrift.specs.Spelling.{IsLegal};
+ghost use Rattle.fd_thrift.specs.Format.{IsLegal};
 ghost use Rattle.fd_thrift.specs.View.{view};
 
 use crate::{ThriftFault, Tree, TreeField, read, write};

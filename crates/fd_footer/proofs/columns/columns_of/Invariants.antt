@@ -1,7 +1,7 @@
 use Rattle.std.proofs.Common.{◌≡◌, ◌++◌, drop, map}
 use Rattle.std.specs.List.{list_all}
 use Rattle.fd_thrift.specs.View.{view}
-use Rattle.fd_footer.specs.Tabled.{is_column, column_at}
+use Rattle.fd_footer.specs.Contents.{is_column, column_at}
 use Rattle.fd_footer.proofs.columns.columns_of.Given as goal
 
 -- the columns so far and those that are left

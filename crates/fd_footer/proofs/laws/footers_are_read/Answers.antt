@@ -1,5 +1,5 @@
-use Rattle.fd_footer.proofs.Shaped.{footer_shaped}
-use Rattle.fd_footer.proofs.Told.{footer_told}
+use Rattle.fd_footer.proofs.ShapeLaws.{footer_shaped}
+use Rattle.fd_footer.proofs.Roundtrips.{footer_told}
 use Rattle.fd_footer.proofs.laws.footers_are_read.Goals as goal
 
 pub returns : goal.returns

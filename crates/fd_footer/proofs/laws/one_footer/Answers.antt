@@ -1,6 +1,6 @@
 use Rattle.std.proofs.Common.{[], refl}
 use Rattle.fd_footer.specs.Footers.{footer_value}
-use Rattle.fd_footer.proofs.Injective.{same_footer}
+use Rattle.fd_footer.proofs.Injectivity.{same_footer}
 use Rattle.fd_footer.proofs.laws.one_footer.Goals as goal
 
 pub returns : goal.returns

@@ -1,6 +1,6 @@
 use Rattle.std.proofs.Common.{ap, ◌∙◌}
 use Rattle.fd_hybrid.specs.Digits.{digits}
-use Rattle.fd_hybrid.proofs.Ahead.{starts_at}
+use Rattle.fd_hybrid.proofs.DigitQueue.{starts_at}
 use Rattle.fd_hybrid.proofs.DigitLaws.{eight_digits}
 use Rattle.fd_hybrid.proofs.groups.group_of.Goals as goal
 

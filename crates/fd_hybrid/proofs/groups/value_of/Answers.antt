@@ -1,6 +1,6 @@
 use Rattle.std.proofs.Common.{arith}
 use Rattle.fd_hybrid.specs.Digits.{ahead}
-use Rattle.fd_hybrid.proofs.Ahead.{took, took_none, gave, left}
+use Rattle.fd_hybrid.proofs.DigitQueue.{took, took_none, gave, left}
 use Rattle.fd_hybrid.proofs.groups.value_of.Goals as goal
 
 pub loop-bits-preserved-then-bits-bytes : goal.loop-bits-preserved-then-bits-bytes

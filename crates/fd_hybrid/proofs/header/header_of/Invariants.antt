@@ -1,5 +1,5 @@
 use Rattle.std.proofs.Common.{◌≡◌, ℕ, ◌-◌, ◌^◌, min, drop}
-use Rattle.fd_hybrid.specs.Reading.{header_at}
+use Rattle.fd_hybrid.specs.Unpacker.{header_at}
 use Rattle.fd_hybrid.proofs.Headers.{part, finish}
 use Rattle.fd_hybrid.proofs.header.header_of.Given as goal
 

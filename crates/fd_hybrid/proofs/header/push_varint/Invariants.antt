@@ -1,5 +1,5 @@
 use Rattle.std.proofs.Common.{List, ℕ, ◌++◌}
-use Rattle.fd_hybrid.specs.Spelling.{IsVarint, AddsVarint}
+use Rattle.fd_hybrid.specs.Format.{IsVarint, AddsVarint}
 use Rattle.fd_hybrid.proofs.header.push_varint.Given as goal
 
 -- whatever stands for the rest completes the number

@@ -1,4 +1,4 @@
-use Rattle.fd_hybrid.proofs.Exact.{one_values, spelled_not_cut, spelled_not_wide, cut_not_wide}
+use Rattle.fd_hybrid.proofs.Exactness.{one_values, spelled_not_cut, spelled_not_wide, cut_not_wide}
 use Rattle.fd_hybrid.proofs.laws.one_reading.Goals as goal
 
 pub returns-clause-values : goal.returns-clause-values

@@ -1,4 +1,4 @@
-use Rattle.fd_pages.proofs.Described.{dictionary, code_page}
+use Rattle.fd_pages.proofs.Examples.{dictionary, code_page}
 use Rattle.fd_pages.proofs.laws.dictionaries_are_as_described.Goals as goal
 
 pub returns : goal.returns

@@ -1,4 +1,4 @@
-use Rattle.fd_pages.proofs.Described.{exchanged, cut}
+use Rattle.fd_pages.proofs.Examples.{exchanged, cut}
 use Rattle.fd_pages.proofs.laws.faulty_dictionaries_are_none.Goals as goal
 
 pub returns : goal.returns

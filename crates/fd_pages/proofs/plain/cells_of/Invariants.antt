@@ -1,5 +1,5 @@
 use Rattle.std.proofs.Common.{◌≡◌, drop}
-use Rattle.fd_pages.specs.Reading.{cells_at, with_front}
+use Rattle.fd_pages.specs.Reader.{cells_at, with_front}
 use Rattle.fd_pages.proofs.plain.cells_of.Given as goal
 
 abbrev pub invariant-loop-level : goal.invariant-loop-level

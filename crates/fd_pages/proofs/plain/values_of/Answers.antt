@@ -1,6 +1,6 @@
 use Rattle.std.proofs.Common.{◌≡◌, ◌++◌, ◌∷◌, [], ◌+◌, ◌-◌, replicate}
 use Rattle.std.proofs.lemmas.Result.{err_from_is_err_and}
-use Rattle.fd_pages.specs.Reading.{cells_at}
+use Rattle.fd_pages.specs.Reader.{cells_at}
 use Rattle.fd_pages.proofs.Loop.{goes_on, ends, is_done, next_one, no_one}
 use Rattle.fd_pages.proofs.plain.values_of.Goals as goal
 

@@ -1,4 +1,4 @@
-use Rattle.fd_thrift.proofs.Placed.{one_of}
+use Rattle.fd_thrift.proofs.Places.{one_of}
 use Rattle.fd_thrift.proofs.laws.one_spelling.Goals as goal
 
 pub returns : goal.returns

@@ -1,5 +1,5 @@
-use Rattle.fd_thrift.proofs.Spelled.{tree_again}
-use Rattle.fd_thrift.proofs.Found.{tree_takes}
+use Rattle.fd_thrift.proofs.Roundtrips.{tree_again}
+use Rattle.fd_thrift.proofs.Soundness.{tree_takes}
 use Rattle.fd_thrift.proofs.laws.spellings_are_read.Goals as goal
 
 pub returns-clause-only : goal.returns-clause-only

@@ -1,5 +1,5 @@
 use Rattle.std.proofs.Common.{arith, refl}
-use Rattle.fd_thrift.specs.Spelling.{varint}
+use Rattle.fd_thrift.specs.Format.{varint}
 use Rattle.fd_thrift.proofs.numbers.push_varint.Goals as goal
 
 pub loop-rest-init : goal.loop-rest-init

@@ -1,5 +1,5 @@
 use Rattle.std.proofs.Common.{◌≡◌, ◌++◌, ℕ, ◌<◌, ◌^◌, ◌*◌}
-use Rattle.fd_thrift.specs.Spelling.{varint, varint_within}
+use Rattle.fd_thrift.specs.Format.{varint, varint_within}
 use Rattle.fd_thrift.proofs.numbers.push_varint.Given as goal
 
 abbrev pub invariant-loop-rest : goal.invariant-loop-rest

@@ -1,5 +1,5 @@
 use Rattle.std.proofs.Common.{◌+◌, ◌*◌, ◌-◌, ◌<◌, ◌^◌, arith, nat_lt, ◌&&◌, ◌==◌, sym, ◌∙◌}
-use Rattle.fd_thrift.proofs.Bytewise.{stays_below, within_64, goes_on_below, weight_left, goes_on, at_first, not_refused}
+use Rattle.fd_thrift.proofs.VarintLoop.{stays_below, within_64, goes_on_below, weight_left, goes_on, at_first, not_refused}
 use Rattle.fd_thrift.proofs.numbers.varint_of.Goals as goal
 
 pub loop-k-init : goal.loop-k-init

@@ -1,6 +1,6 @@
 use Rattle.std.proofs.Common.{◌≡◌, ◌*◌, ◌<◌, ◌≤◌, ◌^◌, drop, nat_lt}
-use Rattle.fd_thrift.specs.Reading.{varint_at, varint_from}
-use Rattle.fd_thrift.proofs.Bytewise.{finish}
+use Rattle.fd_thrift.specs.Reader.{varint_at, varint_from}
+use Rattle.fd_thrift.proofs.VarintLoop.{finish}
 use Rattle.fd_thrift.proofs.numbers.varint_of.Given as goal
 
 abbrev pub invariant-loop-k : goal.invariant-loop-k
