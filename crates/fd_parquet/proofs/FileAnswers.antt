@@ -15,13 +15,13 @@ use Rattle.fd_footer.specs.Shapes.{has_shape}
 use Rattle.fd_footer.specs.Contents.{table_of, have_text_names}
 use Rattle.fd_parquet.specs.declared.fault.FileFault.{FileFault}
 use Rattle.fd_parquet.specs.declared.fault.FileFault.TheVariants.{Magic, Footer as FooterFault, Schema, Page, NoMemory}
-use Rattle.fd_parquet.specs.Columns.{cells_of}
-use Rattle.fd_parquet.specs.Files.{places_from, footer_at}
-use Rattle.fd_parquet.specs.Refusals.{IsRefused, Gives, HasTable, AreParts, TellsOrRefuses, told_of}
-use Rattle.fd_parquet.proofs.FooterSpells.{footer_spelled}
-use Rattle.fd_parquet.proofs.OwnLaws.{columns_own}
-use Rattle.fd_parquet.proofs.Injective.{some_is, not_some}
-use Rattle.fd_parquet.proofs.ReadFiles.{parts_table, parts_tell}
+use Rattle.fd_table_file.specs.Columns.{cells_of}
+use Rattle.fd_table_file.specs.Files.{places_from, footer_at}
+use Rattle.fd_parquet.specs.Refusals.{IsRefused, Gives}
+use Rattle.fd_parquet.specs.Stages.{HasTable, AreParts, TellsOrRefuses, told_of}
+use Rattle.fd_parquet.proofs.LayoutLaws.{columns_own}
+use Rattle.fd_parquet.proofs.Injectivity.{some_is, not_some}
+use Rattle.fd_parquet.proofs.FileReads.{AreSpelled, parts_table, parts_tell}
 
 -- an answer is no refusal
 pub never_fails : {X : Type 0} (x : X) (k : ℕ) → IsRefused {A = X} (Page k) (Ok x) → ⊥
@@ -66,13 +66,14 @@ no_table f o y e is = not_some y (ap (option_map f) (sym is) ∙ e)
 pub own_tells : ((f : Footer) → has_shape (footer_value f) ≡ true)
     → ((f : Footer) → IsWritable f → have_text_names f.columns ≡ true → are_own f.columns ≡ true
     → ◌≡◌ {A = Option FooterTable} (table_of (footer_value f)) (Some (record { pages = f.pages; lo = Some f.lo; hi = Some f.hi; rows = pos f.rows; columns = f.columns })))
+    → AreSpelled
     → (body footer : List ℕ) (rows : List Numbered) (lo hi : ℕ) → AreParts body footer rows lo hi → length footer < 2 ^ 32
     → (v : Value) × Spells footer v × (has_shape v ≡ true) × (table_of v ≡ Some (told_of rows lo hi))
-own_tells shapes tables body footer rows lo hi p short =
+own_tells shapes tables spells body footer rows lo hi p short =
     let f : Footer = footer_at rows lo hi (places_from 4 p.chunks) in
     let few : length (footer_bytes f) < 2 ^ 64 = omega (arith, short, ap length p.footer_is.spelled) in (
       footer_value f,
-      subst (λ b. Spells b (footer_value f)) (sym p.footer_is.spelled) (footer_spelled f p.footer_is.writable few),
+      subst (λ b. Spells b (footer_value f)) (sym p.footer_is.spelled) (spells f p.footer_is.writable few),
       shapes f,
       tables f p.footer_is.writable (parts_tell body footer rows lo hi p) (columns_own rows),
     )

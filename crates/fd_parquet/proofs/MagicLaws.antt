@@ -4,9 +4,9 @@ use Rattle.std.specs.Int.{w32, to_le_bytes, from_le_bytes}
 use Rattle.std.proofs.lemmas.Nat.{from_le_bytes-to_le_bytes_4}
 use Rattle.std.proofs.lemmas.List.{take_at, take-append-le, append_cancel_left, append_cancel_right}
 use Rattle.std.proofs.lemmas.List.Prefix.{end_rest}
-use Rattle.fd_parquet.specs.Files.{magic}
-use Rattle.fd_parquet.specs.Refusals.{HasMagic, HasInner, Holds}
-use Rattle.fd_parquet.proofs.OneChunk.{split_same}
+use Rattle.fd_table_file.specs.Files.{magic}
+use Rattle.fd_parquet.specs.Refusals.{HasMagic, Holds}
+use Rattle.fd_parquet.specs.Stages.{HasInner}
 
 -- what stands between two magics
 record IsBetween (bytes inner : List ℕ) : Type 0 where
@@ -83,15 +83,15 @@ pub holds_is : (bytes inner rest tail body footer : List ℕ) → HasInner bytes
     → (from_le_bytes w32 tail ≡ length footer) × (rest ≡ body ++ footer)
 holds_is bytes inner rest tail body footer h split four holds =
     let le : List ℕ = to_le_bytes w32 (length footer) in
-    let other : bytes ≡ magic ++ ((body ++ footer) ++ (le ++ magic)) = holds.whole ∙ ap (λ xs. magic ++ xs) (sym (append_assoc body footer (le ++ magic))) in
-    let this : bytes ≡ magic ++ (rest ++ (tail ++ magic)) = h.whole ∙ ap (λ xs. magic ++ (xs ++ magic)) split ∙ ap (λ xs. magic ++ xs) (append_assoc rest tail magic) in
-    let same : rest ++ (tail ++ magic) ≡ (body ++ footer) ++ (le ++ magic) = append_cancel_left magic (rest ++ (tail ++ magic)) ((body ++ footer) ++ (le ++ magic)) (sym this ∙ other) in
-    let a : length (rest ++ (tail ++ magic)) ≡ length rest + (length tail + length magic) = length-append rest (tail ++ magic) ∙ ap (λ n. length rest + n) (length-append tail magic) in
-    let b : length ((body ++ footer) ++ (le ++ magic)) ≡ length (body ++ footer) + (length le + length magic) = length-append (body ++ footer) (le ++ magic) ∙ ap (λ n. length (body ++ footer) + n) (length-append le magic) in
-    let len : length rest ≡ length (body ++ footer) = omega (arith, a, b, four, ap length same) in
-    let s = split_same rest (body ++ footer) (tail ++ magic) (le ++ magic) same len in
-    let t : tail ≡ le = append_cancel_right tail le magic s.1 in
-    (ap (λ xs. from_le_bytes w32 xs) t ∙ from_le_bytes-to_le_bytes_4 (length footer) holds.short, s.0)
+    let other : bytes ≡ magic ++ (((body ++ footer) ++ le) ++ magic) =
+    holds.whole ∙ ap (λ xs. magic ++ xs) (sym (append_assoc body footer (le ++ magic)) ∙ sym (append_assoc (body ++ footer) le magic)) in
+    let within : inner ++ magic ≡ ((body ++ footer) ++ le) ++ magic =
+    append_cancel_left magic (inner ++ magic) (((body ++ footer) ++ le) ++ magic) (sym h.whole ∙ other) in
+    let same : inner ≡ (body ++ footer) ++ le = append_cancel_right inner ((body ++ footer) ++ le) magic within in
+    let t : tail ≡ le = sym (end_rest inner tail rest split) ∙ ap (λ n. drop (length inner - n) inner) four ∙ end_rest inner le (body ++ footer) same in
+    let front : rest ≡ body ++ footer =
+    append_cancel_right rest (body ++ footer) le (ap (λ xs. rest ++ xs) (sym t) ∙ sym split ∙ same) in
+    (ap (λ xs. from_le_bytes w32 xs) t ∙ from_le_bytes-to_le_bytes_4 (length footer) holds.short, front)
 
 -- no footer is longer than what stands before its length
 pub no_long_footer : (bytes inner rest tail body footer : List ℕ) → HasInner bytes inner → inner ≡ rest ++ tail → length tail ≡ 4 → length rest < from_le_bytes w32 tail → Holds bytes body footer → ⊥
@@ -106,10 +106,7 @@ pub parts_are : (bytes inner rest tail front back body footer : List ℕ) → Ha
     → rest ≡ front ++ back → length back ≡ from_le_bytes w32 tail → Holds bytes body footer → ◌≡◌ {A = List ℕ × List ℕ} (front, back) (body, footer)
 parts_are bytes inner rest tail front back body footer h split four parts told holds =
     let i = holds_is bytes inner rest tail body footer h split four holds in
-    let same : front ++ back ≡ body ++ footer = sym parts ∙ i.1 in
     let told2 : from_le_bytes w32 tail ≡ length footer = i.0 in
-    let a : length (front ++ back) ≡ length front + length back = length-append front back in
-    let b : length (body ++ footer) ≡ length body + length footer = length-append body footer in
-    let len : length front ≡ length body = omega (arith, a, b, told, told2, ap length same) in
-    let s = split_same front body back footer same len in
-    λ j. (s.0 j, s.1 j)
+    let b : back ≡ footer = sym (end_rest rest back front parts) ∙ ap (λ n. drop (length rest - n) rest) (told ∙ told2) ∙ end_rest rest footer body i.1 in
+    let f : front ≡ body = append_cancel_right front body footer (ap (λ xs. front ++ xs) (sym b) ∙ sym parts ∙ i.1) in
+    λ j. (f j, b j)

@@ -15,7 +15,7 @@ use Rattle.fd_column.specs.LabelColumns.{labels_from}
 use Rattle.fd_column.proofs.RowLabels.{labels_from_is}
 use Rattle.fd_pages.specs.declared.cell.Cell.{Cell}
 use Rattle.fd_footer.specs.declared.footer.Column.{Column}
-use Rattle.fd_parquet.specs.Rows.{cell_in, bytes_of, behind, pair_of, pairs_in}
+use Rattle.fd_parquet.specs.Rows.{cell_in, cell_bytes, behind, pair_of, pairs_in}
 
 -- ---- names behind a prefix
 
@@ -55,7 +55,7 @@ no_cells prefix (c ∷ columns) at = refl
 
 one_more : (prefix : List ℕ) (c : Column) (columns : List Column) (cells : List (List Cell)) (place at : ℕ)
     → pairs_in prefix (c ∷ columns) (drop place cells) at
-    ≡ cons_option (pair_of (behind prefix c.name) (bytes_of (cell_in cells place at))) (pairs_in prefix columns (drop (suc place) cells) at)
+    ≡ cons_option (pair_of (behind prefix c.name) (cell_bytes (cell_in cells place at))) (pairs_in prefix columns (drop (suc place) cells) at)
 one_more prefix c columns [] zero at = sym (ap (λ o. cons_option o (pairs_in prefix columns [] at)) (pair_none (behind prefix c.name)) ∙ no_cells prefix columns at)
 one_more prefix c columns [] (suc place) at = sym (ap (λ o. cons_option o (pairs_in prefix columns [] at)) (pair_none (behind prefix c.name)) ∙ no_cells prefix columns at)
 one_more prefix c columns (list ∷ cells) zero at = refl
@@ -68,12 +68,12 @@ push_pair (Some p) pairs rest = sym (append_assoc pairs (p ∷ []) rest)
 -- what is collected so far and what the columns that are left tell is what all tell
 pub pairs_more : (prefix : List ℕ) (columns : List Column) (cells : List (List Cell)) (place at : ℕ) (c : Column) (pairs more all : List Pair)
     → place < length columns → c ≡ get_or columns place c
-    → more ≡ pairs ++ cons_option (pair_of (behind prefix c.name) (bytes_of (cell_in cells place at))) []
+    → more ≡ pairs ++ cons_option (pair_of (behind prefix c.name) (cell_bytes (cell_in cells place at))) []
     → pairs ++ pairs_in prefix (drop place columns) (drop place cells) at ≡ all
     → more ++ pairs_in prefix (drop (place + 1) columns) (drop (place + 1) cells) at ≡ all
 pairs_more prefix columns cells place at c pairs more all lt is pushed so_far =
     let here : drop place columns ≡ c ∷ drop (place + 1) columns = drop_more columns place c lt ∙ ap (λ x. x ∷ drop (place + 1) columns) (sym is) in
-    let o : Option Pair = pair_of (behind prefix c.name) (bytes_of (cell_in cells place at)) in
+    let o : Option Pair = pair_of (behind prefix c.name) (cell_bytes (cell_in cells place at)) in
     let rest : List Pair = pairs_in prefix (drop (place + 1) columns) (drop (place + 1) cells) at in
     let s : suc place ≡ place + 1 = omega arith in
     let split : pairs_in prefix (drop place columns) (drop place cells) at ≡ cons_option o rest =

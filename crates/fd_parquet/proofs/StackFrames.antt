@@ -6,7 +6,7 @@ use Rattle.std.proofs.lemmas.Nat.{le_bytes_4, from_le_bytes-to_le_bytes_4}
 use Rattle.std.proofs.lemmas.List.{take_at, drop_at}
 use Rattle.std.proofs.lemmas.List.Elements.{All-nil, All-cons, All-head, All-tail}
 use Rattle.fd_column.specs.Stacks.{frame_bytes, stack_bytes, AreShort}
-use Rattle.fd_parquet.specs.Columns.{IsStack}
+use Rattle.fd_table_file.specs.Columns.{IsStack}
 
 -- the first four bytes spell the length of the frame behind them
 pub frame_there : (bytes front behind frame rest : List ℕ) → ((i : ℕ) → get_or front i 0 < 256) → length front ≡ 4

@@ -8,11 +8,11 @@ use Rattle.fd_pages.specs.declared.cell.Cell.{Cell}
 use Rattle.fd_footer.specs.declared.footer.Chunk.{Chunk}
 use Rattle.fd_footer.specs.declared.table.FooterTable.{FooterTable}
 use Rattle.fd_footer.specs.Contents.{have_text_names}
-use Rattle.fd_parquet.specs.declared.reading.FileTable.{FileTable}
-use Rattle.fd_parquet.specs.Columns.{file_column}
-use Rattle.fd_parquet.specs.Files.{IsWithin}
-use Rattle.fd_parquet.specs.Refusals.{IsFooterOf, FitsTable, HasTable, told_of}
-use Rattle.fd_parquet.proofs.OwnLaws.{names_are_texts}
+use Rattle.fd_parquet.specs.declared.reader.FileTable.{FileTable}
+use Rattle.fd_table_file.specs.Columns.{file_column}
+use Rattle.fd_table_file.specs.Files.{IsWithin}
+use Rattle.fd_parquet.specs.Stages.{IsFooterOf, FitsTable, HasTable, told_of}
+use Rattle.fd_parquet.proofs.LayoutLaws.{names_are_texts}
 
 -- what is known of a footer that tells a table
 abbrev pub TellsItsRows : List ℕ → FooterTable → Type 0

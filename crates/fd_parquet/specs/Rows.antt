@@ -18,22 +18,22 @@ abbrev pub cell_in : List (List Cell) → ℕ → ℕ → Option Cell
 cell_in cells column at = slice_get (unwrap_or (slice_get cells column) []) at
 
 -- its number, 0 where it has none
-abbrev pub number_of : Option Cell → ℤ
-number_of None = pos 0
-number_of (Some Absent) = pos 0
-number_of (Some (Whole n)) = n
-number_of (Some (Bytes bytes)) = pos 0
+abbrev pub cell_number : Option Cell → ℤ
+cell_number None = pos 0
+cell_number (Some Absent) = pos 0
+cell_number (Some (Whole n)) = n
+cell_number (Some (Bytes bytes)) = pos 0
 
 -- its bytes, where it has some
-abbrev pub bytes_of : Option Cell → Option (List ℕ)
-bytes_of None = None
-bytes_of (Some Absent) = None
-bytes_of (Some (Whole n)) = None
-bytes_of (Some (Bytes bytes)) = Some bytes
+abbrev pub cell_bytes : Option Cell → Option (List ℕ)
+cell_bytes None = None
+cell_bytes (Some Absent) = None
+cell_bytes (Some (Whole n)) = None
+cell_bytes (Some (Bytes bytes)) = Some bytes
 
 -- its text, which is empty where it has no bytes
 abbrev pub text_in : List (List Cell) → ℕ → ℕ → List ℕ
-text_in cells column at = unwrap_or (bytes_of (cell_in cells column at)) []
+text_in cells column at = unwrap_or (cell_bytes (cell_in cells column at)) []
 
 -- what follows a prefix
 abbrev pub behind : List ℕ → List ℕ → Option (List ℕ)
@@ -52,7 +52,7 @@ abbrev pub pairs_in : List ℕ → List Column → List (List Cell) → ℕ → 
 pairs_in prefix [] cells at = []
 pairs_in prefix (c ∷ columns) [] at = []
 pairs_in prefix (c ∷ columns) (list ∷ cells) at =
-    cons_option (pair_of (behind prefix c.name) (bytes_of (slice_get list at))) (pairs_in prefix columns cells at)
+    cons_option (pair_of (behind prefix c.name) (cell_bytes (slice_get list at))) (pairs_in prefix columns cells at)
 
 -- the labels of a row; pairs that are out of order give none
 abbrev pub labels_in : List ℕ → List Column → List (List Cell) → ℕ → Labels
@@ -67,12 +67,12 @@ row_in columns cells at = record {
   period_type = text_in cells 4 at;
   period_unit = text_in cells 5 at;
   labels = labels_in (codes "labels.") columns cells at;
-  timestamp = number_of (cell_in cells 6 at);
+  timestamp = cell_number (cell_in cells 6 at);
   stack = frames_of (text_in cells 7 at);
   pprof_labels = labels_in (codes "pprof_labels.") columns cells at;
-  period = number_of (cell_in cells 8 at);
-  duration = number_of (cell_in cells 9 at);
-  value = number_of (cell_in cells 10 at);
+  period = cell_number (cell_in cells 8 at);
+  duration = cell_number (cell_in cells 9 at);
+  value = cell_number (cell_in cells 10 at);
 }
 
 -- a row that is not below the last one, if there is one

@@ -2,51 +2,28 @@ ghost use Rattle.std.specs.Prelude.{◌≡◌, ◌≤◌, ◌+◌, ◌-◌, ℕ,
 ghost use Rattle.fd_pages.specs.declared.cell.Cell.{Cell as AnyCell};
 ghost use Rattle.fd_pages.specs.Pages.{SeenGives};
 ghost use Rattle.fd_footer.specs.declared.footer.Chunk.{Chunk as AnyChunk};
-ghost use Rattle.fd_footer.specs.Tables.{has_dictionary as may_have_dictionary};
-ghost use Rattle.fd_parquet.specs.Columns.{kind_in as kind_in_column};
-ghost use Rattle.fd_parquet.specs.Files.{magic, chunk_at};
-ghost use Rattle.fd_parquet.specs.Refusals.{BeginsChunk, BeginsColumns, FailsAt, IsFailure, IsRefused, Gives};
+ghost use Rattle.fd_table_file.specs.Files.{magic, chunk_at};
+ghost use Rattle.fd_parquet.specs.Refusals.{BeginsChunk, BeginsColumns, FailsAt, IsRefused, Gives};
+ghost use Rattle.fd_parquet.specs.Stages.{IsFailure};
 
 use crate::FileFault;
 use crate::contents::have_texts;
 use crate::pages::chunk_in;
-use fd_footer::{Chunk, Chunks, Column, ColumnType, Pages};
+use fd_footer::{Chunk, Chunks, Column, Pages, has_dictionary};
 use fd_kinds::Items;
-use fd_pages::{CellKind, CellList, PageFault};
+use fd_pages::{CellList, PageFault};
+use fd_table_file::kind_in;
 use std::alloc::Global;
 
 /// The cells of columns that were read, and where their chunks stand in the file.
 #[derive(Debug, Drop)]
-pub(crate) struct ReadColumns {
+pub(crate) struct ColumnCells {
     pub(crate) cells: Items<CellList>,
     pub(crate) places: Chunks,
 }
 
 /// The place of the first chunk, behind the magic.
 const FIRST_PLACE: u64 = 4;
-
-/// The cells that a type has.
-fn kind_in(column_type: ColumnType) -> CellKind
-    ensures { result ≡ kind_in_column column_type }
-{
-    match column_type {
-        ColumnType::Int64 => CellKind::Whole,
-        ColumnType::ByteArray => CellKind::Bytes,
-    }
-}
-
-/// Whether the pages of a column begin with a dictionary. Those are not read.
-fn has_dictionary(pages: Pages, column_type: ColumnType) -> bool
-    ensures { result ≡ may_have_dictionary pages column_type }
-{
-    match pages {
-        Pages::Plain => false,
-        Pages::Dict => match column_type {
-            ColumnType::Int64 => false,
-            ColumnType::ByteArray => true,
-        },
-    }
-}
 
 /// The `count` cells of a column whose chunk stands in front of the bytes, and the bytes behind it.
 fn column_in<'a>(
@@ -57,7 +34,8 @@ fn column_in<'a>(
     count: usize,
 ) -> Result<(CellList, &'a [u8]), PageFault>
     ensures found { IfOk result (λ r. BeginsChunk pages column.now count bytes.now r.0 r.1.now) }
-    ensures only { (cells : List AnyCell) (rest : List ℕ) → BeginsChunk pages column.now count bytes.now cells rest
+    ensures only { (cells : List AnyCell) (rest : List ℕ)
+        → BeginsChunk pages column.now count bytes.now cells rest
         → SeenGives {Y = List AnyCell × List ℕ} (λ r. (r.0, r.1.now)) result (Ok (cells, rest)) }
 {
     if has_dictionary(pages, column.column_type) {
@@ -88,7 +66,9 @@ fn fault_at(column: usize, fault: PageFault) -> FileFault
 fn placed(bytes: &[u8], rest: &[u8], behind: &[u8]) -> Chunk
     requires begin { length rest.now ≤ length bytes.now }
     requires end { length behind.now ≤ length rest.now }
-    ensures { result ≡ chunk_at (4 + (length bytes.now - length rest.now)) (length rest.now - length behind.now) }
+    ensures { result
+        ≡ chunk_at (4 + (length bytes.now - length rest.now))
+        (length rest.now - length behind.now) }
 {
     let place = FIRST_PLACE + (bytes.len() - rest.len()) as u64;
     Chunk {
@@ -105,12 +85,17 @@ pub(crate) fn columns_in<'a>(
     pages: Pages,
     columns: &[Column],
     count: usize,
-) -> Result<(ReadColumns, &'a [u8]), FileFault>
-    ensures found { IfOk result (λ r. BeginsColumns pages count (length magic) columns.now bytes.now r.0.cells r.0.places r.1.now) }
-    ensures only { (cells : List (List AnyCell)) (places : List AnyChunk) (rest : List ℕ) → BeginsColumns pages count (length magic) columns.now bytes.now cells places rest
-        → Gives {Y = (List (List AnyCell) × List AnyChunk) × List ℕ} (λ r. ((r.0.cells, r.0.places), r.1.now)) result ((cells, places), rest) }
+) -> Result<(ColumnCells, &'a [u8]), FileFault>
+    ensures found { IfOk result
+        (λ r. BeginsColumns pages count (length magic) columns.now bytes.now
+        r.0.cells r.0.places r.1.now) }
+    ensures only { (cells : List (List AnyCell)) (places : List AnyChunk) (rest : List ℕ)
+        → BeginsColumns pages count (length magic) columns.now bytes.now cells places rest
+        → Gives {Y = (List (List AnyCell) × List AnyChunk) × List ℕ}
+        (λ r. ((r.0.cells, r.0.places), r.1.now)) result ((cells, places), rest) }
     ensures fails { IfErr result (IsFailure pages columns.now count bytes.now) }
-    ensures fails_only { (k : ℕ) → FailsAt pages columns.now count bytes.now k → IsRefused (FileFault.Page k) result }
+    ensures fails_only { (k : ℕ) → FailsAt pages columns.now count bytes.now k
+        → IsRefused (FileFault.Page k) result }
 {
     let mut cells = Items::new(alloc);
     let mut places = Items::new(alloc);
@@ -124,5 +109,5 @@ pub(crate) fn columns_in<'a>(
         cells.push(read)?;
         rest = behind;
     }
-    Ok((ReadColumns { cells, places }, rest))
+    Ok((ColumnCells { cells, places }, rest))
 }

@@ -1,6 +1,6 @@
 ghost use Rattle.std.specs.Prelude.{◌≡◌, ◌<◌, ◌^◌, ◌++◌, ℕ, List, None, IfSome, All, Decides, length};
 ghost use Rattle.fd_column.specs.Stacks.{frame_bytes};
-ghost use Rattle.fd_parquet.specs.Columns.{IsText, IsStack, IsContent, HasText};
+ghost use Rattle.fd_table_file.specs.Columns.{IsText, IsStack, IsContent, HasText};
 
 use fd_footer::Column;
 use fd_pages::Cell;
@@ -13,13 +13,22 @@ fn is_text(required: bool, bytes: &[u8]) -> bool
     (required || !bytes.is_empty()) && str::from_utf8(bytes).is_ok()
 }
 
-#[tactic(auto, using(crate::proofs::StackFrames::no_short_frame, crate::proofs::StackFrames::no_long_frame, crate::proofs::StackFrames::frame_there, crate::proofs::StackFrames::shorter_behind))]
+#[tactic(
+    auto,
+    using(
+        crate::proofs::StackFrames::no_short_frame,
+        crate::proofs::StackFrames::no_long_frame,
+        crate::proofs::StackFrames::frame_there,
+        crate::proofs::StackFrames::shorter_behind
+    )
+)]
 /// The frame in front of the bytes, and the bytes behind it.
 fn frame_in(bytes: &[u8]) -> Option<(&[u8], &[u8])>
     ensures found { IfSome result (λ r. bytes.now ≡ frame_bytes r.0.now ++ r.1.now) }
     ensures short { IfSome result (λ r. length r.0.now < 2 ^ 32) }
     ensures shorter { IfSome result (λ r. length r.1.now < length bytes.now) }
-    ensures none { result ≡ None → (frame rest : List ℕ) → length frame < 2 ^ 32 → bytes.now ≡ frame_bytes frame ++ rest → ⊥ }
+    ensures none { result ≡ None → (frame rest : List ℕ) → length frame < 2 ^ 32
+        → bytes.now ≡ frame_bytes frame ++ rest → ⊥ }
 {
     if bytes.len() < 4 {
         return None;
@@ -32,7 +41,15 @@ fn frame_in(bytes: &[u8]) -> Option<(&[u8], &[u8])>
     Some(rest.split_at(length))
 }
 
-#[tactic(auto, using(crate::proofs::StackFrames::stack_none, crate::proofs::StackFrames::stack_more, crate::proofs::StackFrames::stack_less, crate::proofs::StackFrames::stack_begun))]
+#[tactic(
+    auto,
+    using(
+        crate::proofs::StackFrames::stack_none,
+        crate::proofs::StackFrames::stack_more,
+        crate::proofs::StackFrames::stack_less,
+        crate::proofs::StackFrames::stack_begun
+    )
+)]
 /// Whether bytes are frames of text, each behind its length.
 fn is_stack(bytes: &[u8]) -> bool
     ensures { Decides result (IsStack bytes.now) }

@@ -1,5 +1,7 @@
 use fd_footer::FooterFault;
 use fd_kinds::NoMemory;
+use std::error::Error;
+use std::fmt;
 
 /// Why bytes are not the file of a table.
 #[derive(Clone, Copy, Debug, PartialEq, Eq)]
@@ -16,6 +18,20 @@ pub enum FileFault {
     Page { column: u64 },
     NoMemory,
 }
+
+impl fmt::Display for FileFault {
+    fn fmt<W: fmt::Write>(&self, f: &mut fmt::Formatter<W>) -> fmt::Result {
+        match self {
+            FileFault::Magic => write!(f, "no Parquet magic at both ends of the file"),
+            FileFault::Footer => write!(f, "no Parquet footer in front of its length"),
+            FileFault::Schema => write!(f, "the columns or entries of another program's file"),
+            FileFault::Page { column } => write!(f, "no pages of its cells in column {column}"),
+            FileFault::NoMemory => write!(f, "out of memory"),
+        }
+    }
+}
+
+impl Error for FileFault {}
 
 impl From<NoMemory> for FileFault {
     ghost use Rattle.std.specs.Prelude.{◌≡◌};

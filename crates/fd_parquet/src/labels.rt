@@ -5,7 +5,7 @@ ghost use Rattle.fd_kinds.specs.Labels.{are_labels as are_labels_pairs, is_befor
 ghost use Rattle.fd_column.specs.LabelColumns.{labels_from};
 ghost use Rattle.fd_parquet.specs.Rows.{behind as behind_prefix, pair_of, pairs_in, labels_in};
 
-use crate::framing::behind;
+use crate::frame::behind;
 use crate::rows::bytes_at;
 use fd_column::text_of;
 use fd_footer::Column;
@@ -27,7 +27,9 @@ fn with_pair(
     name: Option<&[u8]>,
     value: Option<&[u8]>,
 ) -> Result<Pairs, NoMemory>
-    ensures { IfOk result (λ more. more ≡ pairs ++ cons_option (pair_of (option_copied name.entry) (option_copied value.entry)) []) }
+    ensures { IfOk result
+        (λ more. more ≡ pairs
+        ++ cons_option (pair_of (option_copied name.entry) (option_copied value.entry)) []) }
 {
     let mut more = pairs;
     if let Some(name) = name {

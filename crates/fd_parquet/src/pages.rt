@@ -1,11 +1,10 @@
 ghost use Rattle.std.specs.Prelude.{◌≡◌, ◌++◌, ℕ, List, IfOk, Ok};
 ghost use Rattle.fd_pages.specs.declared.cell.Cell.{Cell as AnyCell};
 ghost use Rattle.fd_pages.specs.Pages.{SeenGives};
-ghost use Rattle.fd_parquet.specs.Chunks.{BeginsPage, BeginsCells};
+ghost use Rattle.fd_table_file.specs.Chunks.{BeginsPage, BeginsCells};
 
-use crate::chunks::MAX_ROWS;
 use fd_kinds::{Items, NoMemory};
-use fd_pages::{CellKind, CellList, PageFault, read_page};
+use fd_pages::{CellKind, CellList, MAX_ROWS, PageFault, read_page};
 use std::alloc::Global;
 
 /// The cells of the page of `count` cells in front of the bytes, and the bytes behind it.
@@ -17,7 +16,8 @@ fn page_in(
     count: usize,
 ) -> Result<(CellList, &[u8]), PageFault>
     ensures found { IfOk result (λ r. BeginsPage kind required count bytes.now r.0 r.1.now) }
-    ensures only { (cells : List AnyCell) (rest : List ℕ) → BeginsPage kind required count bytes.now cells rest
+    ensures only { (cells : List AnyCell) (rest : List ℕ)
+        → BeginsPage kind required count bytes.now cells rest
         → SeenGives {Y = List AnyCell × List ℕ} (λ r. (r.0, r.1.now)) result (Ok (cells, rest)) }
 {
     let (page, end) = read_page(alloc, bytes, 0, kind, required, count)?;
@@ -42,7 +42,8 @@ pub(crate) fn chunk_in(
     count: usize,
 ) -> Result<(CellList, &[u8]), PageFault>
     ensures found { IfOk result (λ r. BeginsCells kind required count bytes.now r.0 r.1.now) }
-    ensures only { (cells : List AnyCell) (rest : List ℕ) → BeginsCells kind required count bytes.now cells rest
+    ensures only { (cells : List AnyCell) (rest : List ℕ)
+        → BeginsCells kind required count bytes.now cells rest
         → SeenGives {Y = List AnyCell × List ℕ} (λ r. (r.0, r.1.now)) result (Ok (cells, rest)) }
 {
     let mut cells = Items::new(alloc);

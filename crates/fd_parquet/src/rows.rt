@@ -1,14 +1,14 @@
 ghost use Rattle.std.specs.Prelude.{◌≡◌, ◌<◌, ◌≤◌, ◌^◌, ◌++◌, ◌∷◌, [], ℕ, pos, List, Some, None, IfOk, IfSome, All, Decides, IsSorted, length, slice_get, ◌-◌};
 ghost use Rattle.std.specs.Option.{option_copied};
 ghost use Rattle.fd_kinds.specs.declared.row.Numbered.{Numbered as AnyRow};
-ghost use Rattle.fd_parquet.specs.Files.{IsWithin};
-ghost use Rattle.fd_parquet.specs.Refusals.{AreRows, HaveTexts, BuildsRows};
-ghost use Rattle.fd_parquet.specs.Rows.{cell_in, number_of, bytes_of, text_in, row_in, MayFollow};
+ghost use Rattle.fd_table_file.specs.Files.{IsWithin};
+ghost use Rattle.fd_parquet.specs.Stages.{AreRows, HaveTexts, BuildsRows};
+ghost use Rattle.fd_parquet.specs.Rows.{cell_in, cell_number, cell_bytes, text_in, row_in, MayFollow};
 ghost use Rattle.fd_column.specs.RowNumbers.{numbered_cmp};
 ghost use Rattle.fd_column.specs.Stacks.{frames_of};
 
 use crate::labels::labels_at;
-use crate::rising::RisingRows;
+use crate::row_builder::RowBuilder;
 use fd_column::{ColumnPart, read_stack, text_of};
 use fd_footer::Column;
 use fd_kinds::{Items, NoMemory, Numbered, Row, Stack, Text};
@@ -24,7 +24,7 @@ fn cell_at(cells: &[CellList], column: usize, at: usize) -> Option<&Cell>
 
 /// The number of a cell, 0 where it has none.
 fn whole_at(cells: &[CellList], column: usize, at: usize) -> i64
-    ensures { result ≡ number_of (cell_in cells.now column at) }
+    ensures { result ≡ cell_number (cell_in cells.now column at) }
 {
     match cell_at(cells, column, at) {
         Some(Cell::Whole(number)) => *number,
@@ -34,7 +34,7 @@ fn whole_at(cells: &[CellList], column: usize, at: usize) -> i64
 
 /// The bytes of a cell, none where it has none.
 pub(crate) fn bytes_at(cells: &[CellList], column: usize, at: usize) -> Option<&[u8]>
-    ensures { option_copied result ≡ bytes_of (cell_in cells.now column at) }
+    ensures { option_copied result ≡ cell_bytes (cell_in cells.now column at) }
 {
     match cell_at(cells, column, at) {
         Some(Cell::Bytes(bytes)) => Some(bytes.as_slice()),
@@ -84,9 +84,10 @@ fn row_at(alloc: Global, columns: &[Column], cells: &[CellList], at: usize) -> R
 
 /// The number of a row's batch, none where it is out of the range.
 fn number_at(cells: &[CellList], at: usize, lo: u64, hi: u64) -> Option<u64>
-    ensures found { IfSome result (λ n. number_of (cell_in cells.now 0 at) ≡ pos n) }
+    ensures found { IfSome result (λ n. cell_number (cell_in cells.now 0 at) ≡ pos n) }
     ensures range { IfSome result (λ n. (lo ≤ n) × (n ≤ hi)) }
-    ensures only { (n : ℕ) → number_of (cell_in cells.now 0 at) ≡ pos n → lo ≤ n → n ≤ hi → result ≡ Some n }
+    ensures only { (n : ℕ) → cell_number (cell_in cells.now 0 at) ≡ pos n → lo ≤ n → n ≤ hi
+        → result ≡ Some n }
 {
     let Ok(number) = u64::try_from(whole_at(cells, 0, at)) else {
         return None;
@@ -106,10 +107,13 @@ fn numbered_at(
     lo: u64,
     hi: u64,
 ) -> Result<Option<Numbered>, NoMemory>
-    ensures number { IfOk result (λ next. IfSome next (λ n. number_of (cell_in cells.now 0 at) ≡ pos n.number)) }
+    ensures number { IfOk result
+        (λ next. IfSome next (λ n. cell_number (cell_in cells.now 0 at) ≡ pos n.number)) }
     ensures within { IfOk result (λ next. IfSome next (IsWithin lo hi)) }
     ensures row { IfOk result (λ next. IfSome next (λ n. n.row ≡ row_in columns.now cells.now at)) }
-    ensures none { IfOk result (λ next. next ≡ None → (n : ℕ) → number_of (cell_in cells.now 0 at) ≡ pos n → lo ≤ n → n ≤ hi → ⊥) }
+    ensures none { IfOk result
+        (λ next. next ≡ None → (n : ℕ) → cell_number (cell_in cells.now 0 at) ≡ pos n → lo ≤ n
+        → n ≤ hi → ⊥) }
 {
     let Some(number) = number_at(cells, at, lo, hi) else {
         return Ok(None);
@@ -127,13 +131,16 @@ fn rows_in(
     count: usize,
     lo: u64,
     hi: u64,
-) -> Result<Option<RisingRows>, NoMemory>
+) -> Result<Option<RowBuilder>, NoMemory>
     requires below { hi < 2 ^ 63 }
     requires texts { HaveTexts columns.now cells.now }
-    ensures found { IfOk result (λ rows. IfSome rows (BuildsRows columns.now cells.now lo hi count)) }
-    ensures none { IfOk result (λ found. found ≡ None → (rows : List AnyRow) → length rows ≡ count → AreRows columns.now cells.now lo hi rows → ⊥) }
+    ensures found { IfOk result
+        (λ rows. IfSome rows (BuildsRows columns.now cells.now lo hi count)) }
+    ensures none { IfOk result
+        (λ found. found ≡ None → (rows : List AnyRow) → length rows ≡ count
+        → AreRows columns.now cells.now lo hi rows → ⊥) }
 {
-    let mut rows = RisingRows::new(alloc);
+    let mut rows = RowBuilder::new(alloc);
     for at in 0..count {
         let Some(next) = numbered_at(alloc, columns, cells, at, lo, hi)? else {
             return Ok(None);
@@ -162,7 +169,8 @@ pub(crate) fn part_of(
     ensures sorted { IfOk result (λ part. IfSome part (IsSorted numbered_cmp)) }
     ensures counted { IfOk result (λ part. IfSome part (λ rows. length rows ≡ count)) }
     // Rows that have these cells are found, unless memory runs out.
-    ensures only { (rows : List AnyRow) → length rows ≡ count → AreRows columns.now cells.now lo hi rows
+    ensures only { (rows : List AnyRow) → length rows ≡ count
+        → AreRows columns.now cells.now lo hi rows
         → IfOk result (λ part. part ≡ Some rows) }
 {
     let Some(rows) = rows_in(alloc, columns, cells, count, lo, hi)? else {

@@ -3,7 +3,7 @@ use Rattle.std.specs.Prelude.{◌≡◌, ℕ, ◌≤◌, true, List, All}
 use Rattle.fd_kinds.specs.declared.row.Numbered.{Numbered}
 use Rattle.fd_kinds.specs.Parts.{PartMeaning, IsPart, IsWithin, held_bytes}
 use Rattle.fd_footer.specs.declared.footer.Pages.TheVariants.{Plain}
-use Rattle.fd_parquet.specs.Files.{IsFileOf, IsPlainFileOf}
+use Rattle.fd_table_file.specs.Files.{IsFileOf, IsPlainFileOf}
 
 -- numbered rows, and the range in which their numbers lie
 pub record Ranged : Type 0 where

@@ -2,7 +2,7 @@ ghost use Rattle.std.specs.Prelude.{◌≡◌, ◌≢◌, ◌≤◌, ◌<◌, �
 ghost use Rattle.fd_kinds.specs.declared.row.Numbered.{Numbered};
 ghost use Rattle.fd_kinds.specs.Parts.{IsPart, IsWithin};
 ghost use Rattle.fd_footer.specs.declared.footer.Pages.TheVariants.{Plain};
-ghost use Rattle.fd_parquet.specs.Files.{IsSmall, IsFileOf};
+ghost use Rattle.fd_table_file.specs.Files.{IsSmall, IsFileOf};
 ghost use Rattle.fd_parquet.specs.Refusals.{Refuses, IsRefused, Gives};
 ghost use Rattle.fd_parquet.specs.declared.fault.FileFault.{FileFault as AnyFault};
 ghost use Rattle.fd_part.specs.Ranged.{sealed_of, sealed_part};

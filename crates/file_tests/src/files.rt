@@ -1,6 +1,6 @@
 ghost use Rattle.std.specs.Prelude.{◌≡◌, All, IfOk, length};
 ghost use Rattle.fd_kinds.specs.Parts.{IsWithin};
-ghost use Rattle.fd_parquet.specs.Files.{IsSmall};
+ghost use Rattle.fd_table_file.specs.Files.{IsSmall};
 
 use fd_column::{ColumnPart, Columns, PartBuilder};
 use fd_kinds::{

@@ -1,9 +1,9 @@
 use Rattle.std.proofs.Common.{◌≡◌, ℕ, List, true≢false, sym, ap, ◌∙◌, subst}
 use Rattle.std.specs.Prelude.{All}
 use Rattle.fd_pages.specs.declared.cell.Cell.{Cell}
-use Rattle.fd_parquet.specs.Columns.{HasText}
-use Rattle.fd_parquet.specs.Chunks.{BeginsCells}
-use Rattle.fd_parquet.proofs.ReadPages.{chunk_cells, ok_is}
+use Rattle.fd_table_file.specs.Columns.{HasText}
+use Rattle.fd_table_file.specs.Chunks.{BeginsCells}
+use Rattle.fd_parquet.proofs.PageReads.{chunk_cells, ok_is}
 use Rattle.fd_parquet.proofs.columns.column_in.Goals as goal
 
 pub returns-then-not-have_texts-clause-only : goal.returns-then-not-have_texts-clause-only

@@ -1,5 +1,5 @@
 use Rattle.std.proofs.Common.{◌+◌, [], ◌∷◌, ◌++◌, sym, subst}
-use Rattle.fd_parquet.proofs.ReadColumns.{ReadsColumns, columns_none, columns_more, columns_all, columns_one, refused_gives, refused_fails, refused_only}
+use Rattle.fd_parquet.proofs.ColumnReads.{ReadsColumns, columns_none, columns_more, columns_all, columns_one, refused_gives, refused_fails, refused_only}
 use Rattle.fd_parquet.proofs.columns.columns_in.Goals as goal
 
 pub loop-at-init : goal.loop-at-init

@@ -1,4 +1,4 @@
-use Rattle.fd_parquet.proofs.ReadColumns.{ReadsColumns}
+use Rattle.fd_parquet.proofs.ColumnReads.{ReadsColumns}
 use Rattle.fd_parquet.proofs.columns.columns_in.Given as goal
 
 abbrev pub invariant-loop-at : goal.invariant-loop-at

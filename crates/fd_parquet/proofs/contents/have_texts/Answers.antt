@@ -1,6 +1,6 @@
 use Rattle.std.proofs.Common.{refl}
-use Rattle.fd_parquet.specs.Columns.{HasText}
-use Rattle.fd_parquet.proofs.SameLaws.{all_more, all_done}
+use Rattle.fd_table_file.specs.Columns.{HasText}
+use Rattle.fd_parquet.proofs.ItemLaws.{all_more, all_done}
 use Rattle.fd_parquet.proofs.contents.have_texts.Goals as goal
 
 pub loop-cell-preserved : goal.loop-cell-preserved

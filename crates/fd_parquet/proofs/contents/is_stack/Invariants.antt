@@ -1,5 +1,5 @@
 use Rattle.std.proofs.Common.{length}
-use Rattle.fd_parquet.specs.Columns.{IsStack}
+use Rattle.fd_table_file.specs.Columns.{IsStack}
 use Rattle.fd_parquet.proofs.contents.is_stack.Given as goal
 
 abbrev pub decreases-loop-rest : goal.decreases-loop-rest

@@ -1,13 +1,13 @@
 use Rattle.std.proofs.Common.{◌≡◌, ◌++◌, [], ap, ◌∙◌}
 use Rattle.std.specs.List.{cons_option}
 use Rattle.std.specs.Option.{option_copied}
-use Rattle.fd_parquet.specs.Rows.{cell_in, bytes_of, behind, pair_of, pairs_in}
+use Rattle.fd_parquet.specs.Rows.{cell_in, cell_bytes, behind, pair_of, pairs_in}
 use Rattle.fd_parquet.proofs.PairLaws.{pairs_more}
 use Rattle.fd_parquet.proofs.labels.pairs_at.Goals as goal
 
 pub loop-place-preserved : goal.loop-place-preserved
 loop-place-preserved c =
-    let pushed : c.in_ok-pairs.pairs ≡ c.loop-place.pairs ++ cons_option (pair_of (behind c.args.prefix.now c.index-columns-place.result.name) (bytes_of (cell_in c.args.cells.now c.loop-place.place c.args.at))) [] =
+    let pushed : c.in_ok-pairs.pairs ≡ c.loop-place.pairs ++ cons_option (pair_of (behind c.args.prefix.now c.index-columns-place.result.name) (cell_bytes (cell_in c.args.cells.now c.loop-place.place c.args.at))) [] =
     c.in_ok-pairs.ensures
     ∙ ap (λ o. c.loop-place.pairs ++ cons_option (pair_of o (option_copied c.bytes_at.result)) []) c.name_behind-name.ensures
     ∙ ap (λ o. c.loop-place.pairs ++ cons_option (pair_of (behind c.args.prefix.now c.index-columns-place.result.name) o) []) c.bytes_at.ensures in

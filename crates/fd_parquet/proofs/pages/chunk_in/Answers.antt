@@ -1,6 +1,6 @@
 use Rattle.std.proofs.Common.{◌≡◌, ◌<◌, ◌≤◌, ◌-◌, length, min, sym, ap, ◌∙◌, subst, arith}
 use Rattle.std.proofs.lemmas.Result.{err_from_is_err_and}
-use Rattle.fd_parquet.proofs.ReadPages.{ReadsPages, pages_more, pages_refused, pages_all, pages_one}
+use Rattle.fd_parquet.proofs.PageReads.{ReadsPages, pages_more, pages_refused, pages_all, pages_one}
 use Rattle.fd_parquet.proofs.pages.chunk_in.Goals as goal
 
 pub returns-in_err-more-clause-only : goal.returns-in_err-more-clause-only

@@ -1,5 +1,5 @@
 use Rattle.std.proofs.Common.{◌-◌, length}
-use Rattle.fd_parquet.proofs.ReadPages.{ReadsPages}
+use Rattle.fd_parquet.proofs.PageReads.{ReadsPages}
 use Rattle.fd_parquet.proofs.pages.chunk_in.Given as goal
 
 abbrev pub decreases-loop-alloc : goal.decreases-loop-alloc

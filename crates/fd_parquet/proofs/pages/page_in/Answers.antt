@@ -3,7 +3,7 @@ use Rattle.std.proofs.lemmas.List.{take_rest}
 use Rattle.std.proofs.lemmas.Result.{err_from_is_err_and}
 use Rattle.fd_pages.specs.declared.cell.Cell.{Cell}
 use Rattle.fd_pages.specs.declared.cell.Cells.{Cells}
-use Rattle.fd_parquet.proofs.ReadPages.{page_placed, rest_is, seen_err, ok_gives}
+use Rattle.fd_parquet.proofs.PageReads.{page_placed, rest_is, seen_err, ok_gives}
 use Rattle.fd_parquet.proofs.pages.page_in.Goals as goal
 
 pub returns-in_err-page-clause-only : goal.returns-in_err-page-clause-only

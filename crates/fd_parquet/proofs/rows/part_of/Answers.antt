@@ -2,9 +2,9 @@ use Rattle.std.proofs.Common.{List, length, Some, sym, ap, ◌∙◌, subst}
 use Rattle.std.specs.Prelude.{IfSome, All, IsSorted}
 use Rattle.fd_kinds.specs.declared.row.Numbered.{Numbered}
 use Rattle.fd_column.specs.RowNumbers.{numbered_cmp}
-use Rattle.fd_parquet.specs.Files.{IsWithin}
-use Rattle.fd_parquet.specs.Refusals.{BuildsRows}
-use Rattle.fd_parquet.proofs.BuiltRows.{rows_all}
+use Rattle.fd_table_file.specs.Files.{IsWithin}
+use Rattle.fd_parquet.specs.Stages.{BuildsRows}
+use Rattle.fd_parquet.proofs.RowOrder.{rows_all}
 use Rattle.fd_parquet.proofs.rows.part_of.Goals as goal
 
 pub returns-in_default-clause-only : goal.returns-in_default-clause-only

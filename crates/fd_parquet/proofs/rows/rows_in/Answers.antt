@@ -1,11 +1,11 @@
 use Rattle.std.proofs.Common.{◌≡◌, ◌<◌, ◌≤◌, ◌++◌, ◌∷◌, [], List, pos, length, subst, arith}
 use Rattle.std.specs.Prelude.{IfSome}
 use Rattle.fd_kinds.specs.declared.row.Numbered.{Numbered}
-use Rattle.fd_parquet.specs.Files.{IsWithin}
-use Rattle.fd_parquet.specs.Rows.{cell_in, number_of, row_in, MayFollow}
+use Rattle.fd_table_file.specs.Files.{IsWithin}
+use Rattle.fd_parquet.specs.Rows.{cell_in, cell_number, row_in, MayFollow}
 use Rattle.std.specs.Prelude.{slice_get}
 use Rattle.std.proofs.Common.{◌-◌}
-use Rattle.fd_parquet.proofs.BuiltRows.{rows_more, no_number, no_order}
+use Rattle.fd_parquet.proofs.RowOrder.{rows_more, no_number, no_order}
 use Rattle.fd_parquet.proofs.rows.rows_in.Goals as goal
 
 pub returns-in_default-clause-none : goal.returns-in_default-clause-none
@@ -16,16 +16,16 @@ returns-in_default-clause-none c = λ _ rows counted are.
 pub returns-in_default-2-clause-none : goal.returns-in_default-2-clause-none
 returns-in_default-2-clause-none c = λ _ rows counted are.
     let lt : c.loop-at.at < length rows = omega (arith, counted, c.loop-at-test.true) in
-    let number : number_of (cell_in c.args.cells.now 0 c.loop-at.at) ≡ pos c.in-Some.next.number =
-    subst (λ o. IfSome o (λ (n : Numbered). number_of (cell_in c.args.cells.now 0 c.loop-at.at) ≡ pos n.number)) c.in-Some.is c.in_ok-next.ensures.number in
+    let number : cell_number (cell_in c.args.cells.now 0 c.loop-at.at) ≡ pos c.in-Some.next.number =
+    subst (λ o. IfSome o (λ (n : Numbered). cell_number (cell_in c.args.cells.now 0 c.loop-at.at) ≡ pos n.number)) c.in-Some.is c.in_ok-next.ensures.number in
     let row : c.in-Some.next.row ≡ row_in c.args.columns.now c.args.cells.now c.loop-at.at =
     subst (λ o. IfSome o (λ (n : Numbered). n.row ≡ row_in c.args.columns.now c.args.cells.now c.loop-at.at)) c.in-Some.is c.in_ok-next.ensures.row in
     no_order c.args.columns.now c.args.cells.now c.args.lo c.args.hi c.loop-at.at c.loop-at.rows c.in-Some.next rows c.loop-at.invariant c.requires.texts lt are number row (c.in_ok-more.ensures.none c.in_default-2.is)
 
 pub loop-at-preserved : goal.loop-at-preserved
 loop-at-preserved c =
-    let number : number_of (cell_in c.args.cells.now 0 c.loop-at.at) ≡ pos c.in-Some.next.number =
-    subst (λ o. IfSome o (λ (n : Numbered). number_of (cell_in c.args.cells.now 0 c.loop-at.at) ≡ pos n.number)) c.in-Some.is c.in_ok-next.ensures.number in
+    let number : cell_number (cell_in c.args.cells.now 0 c.loop-at.at) ≡ pos c.in-Some.next.number =
+    subst (λ o. IfSome o (λ (n : Numbered). cell_number (cell_in c.args.cells.now 0 c.loop-at.at) ≡ pos n.number)) c.in-Some.is c.in_ok-next.ensures.number in
     let row : c.in-Some.next.row ≡ row_in c.args.columns.now c.args.cells.now c.loop-at.at =
     subst (λ o. IfSome o (λ (n : Numbered). n.row ≡ row_in c.args.columns.now c.args.cells.now c.loop-at.at)) c.in-Some.is c.in_ok-next.ensures.row in
     let within : IsWithin c.args.lo c.args.hi c.in-Some.next = subst (λ o. IfSome o (IsWithin c.args.lo c.args.hi)) c.in-Some.is c.in_ok-next.ensures.within in

@@ -1,4 +1,4 @@
-use Rattle.fd_parquet.specs.Refusals.{BuildsRows}
+use Rattle.fd_parquet.specs.Stages.{BuildsRows}
 use Rattle.fd_parquet.proofs.rows.rows_in.Given as goal
 
 abbrev pub invariant-loop-at : goal.invariant-loop-at

@@ -5,7 +5,7 @@ use Rattle.std.proofs.lemmas.Result.{IfOk-weaker}
 use Rattle.fd_kinds.specs.declared.row.Numbered.{Numbered}
 use Rattle.fd_kinds.specs.Parts.{IsWithin}
 use Rattle.fd_kinds.specs.RowSize.{row_size}
-use Rattle.fd_parquet.specs.Files.{IsSmall}
+use Rattle.fd_table_file.specs.Files.{IsSmall}
 use Rattle.file_tests.proofs.files.table_of.Goals as goal
 
 two : (a b : Numbered) (none one both : List Numbered) → none ≡ [] → one ≡ none ++ a ∷ [] → both ≡ one ++ b ∷ [] → both ≡ a ∷ b ∷ []

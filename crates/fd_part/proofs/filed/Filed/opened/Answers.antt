@@ -1,7 +1,7 @@
 use Rattle.std.proofs.Common.{ℕ, List, sym, ap, subst, ◌∙◌}
 use Rattle.fd_kinds.specs.declared.row.Numbered.{Numbered}
-use Rattle.fd_parquet.specs.declared.reading.FileTable.{FileTable}
-use Rattle.fd_parquet.specs.Files.{IsPlainFileOf}
+use Rattle.fd_parquet.specs.declared.reader.FileTable.{FileTable}
+use Rattle.fd_table_file.specs.Files.{IsPlainFileOf}
 use Rattle.fd_parquet.specs.Refusals.{Refuses}
 use Rattle.fd_part.specs.Ranged.{Ranged, sealed_of, sealed_part}
 use Rattle.fd_part.proofs.Opened.{gives_fault, refused_fault}

@@ -1,7 +1,0 @@
-use Rattle.std.proofs.Common.{◌≡◌, map, take}
-use Rattle.fd_column.specs.Cells.{columns_of}
-use Rattle.fd_parquet.specs.Columns.{file_column}
-use Rattle.fd_parquet.proofs.footers.columns_of.Given as goal
-
-abbrev pub invariant-loop-at : goal.invariant-loop-at
-invariant-loop-at l = l.columns ≡ map file_column (take l.at (columns_of l.table))

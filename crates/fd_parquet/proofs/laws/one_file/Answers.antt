@@ -1,5 +1,0 @@
-use Rattle.fd_parquet.proofs.OneFile.{one_file}
-use Rattle.fd_parquet.proofs.laws.one_file.Goals as goal
-
-pub returns : goal.returns
-returns c = one_file c.one_spelling.ensures c.one_coding.ensures

@@ -1,5 +1,0 @@
-use Rattle.fd_parquet.proofs.ReadFiles.{footer_tells}
-use Rattle.fd_parquet.proofs.reading.footers_tell_their_rows.Goals as goal
-
-pub returns : goal.returns
-returns c = footer_tells c.one_spelling.ensures c.footers_are_read.ensures.table

@@ -1,5 +1,0 @@
-use Rattle.fd_parquet.proofs.RisingLaws.{last_more}
-use Rattle.fd_parquet.proofs.rising.RisingRows.with_next.Goals as goal
-
-pub invariant_of-result : goal.invariant_of-result
-invariant_of-result c = last_more c.self.inside.rows c.in_ok-rows.rows c.args.next c.in_ok-rows.ensures

@@ -1,0 +1,10 @@
+pub mod CellRoundtrips
+pub mod ChunkPlaces
+pub mod ColumnLaws
+pub mod ColumnPlaces
+pub mod Comparisons
+pub mod FrameLaws
+pub mod OneChunk
+pub mod OneDictionaryChunk
+pub mod OneFile
+pub mod OneTable

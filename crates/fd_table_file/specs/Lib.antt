@@ -1,0 +1,5 @@
+pub mod Chunks
+pub mod Columns
+pub mod Dictionaries
+pub mod Files
+pub mod Frame
