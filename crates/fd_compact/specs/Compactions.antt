@@ -3,7 +3,7 @@ use Rattle.std.specs.Prelude.{◌≡◌, ℕ, ◌≤◌, ◌<◌, List, length, 
 use Rattle.fd_kinds.specs.Parts.{PartMeaning}
 use Rattle.fd_shelf.specs.Books.{Shelved, rows_in}
 use Rattle.fd_shelf.specs.Steps.{lowest, highest, is_loose}
-use Rattle.fd_shelf.specs.Replacing.{replaced}
+use Rattle.fd_shelf.specs.Replacement.{replaced}
 use Rattle.fd_compact.specs.declared.compaction.Compaction.{Compaction}
 use Rattle.fd_compact.specs.declared.compaction.Compaction.TheVariants.{Compacted, Nothing, Overtaken, Changed}
 use Rattle.fd_compact.specs.Sealable.{IsSealOf}

@@ -3,7 +3,7 @@ ghost use Rattle.fd_part.specs.Parts.{part_meaning};
 ghost use Rattle.fd_shelf.specs.Books.{IsSealed, all_parts};
 ghost use Rattle.fd_shelf.specs.Histories.{hist};
 ghost use Rattle.fd_shelf.specs.Steps.{loose_upto};
-ghost use Rattle.fd_shelf.specs.Replacing.{HasRowsOf, IsChanged, replaced};
+ghost use Rattle.fd_shelf.specs.Replacement.{HasRowsOf, IsChanged, replaced};
 ghost use Rattle.fd_compact.specs.Compactions.{Compacts, CompactsFull, loose_parts};
 
 use crate::Compaction;

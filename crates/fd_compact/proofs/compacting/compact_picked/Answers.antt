@@ -1,7 +1,7 @@
 use Rattle.std.proofs.Common.{arith, ◌≡◌, ◌<◌, ◌∙◌, length, map, ap, sym, subst}
 use Rattle.fd_part.specs.Parts.{part_meaning}
 use Rattle.fd_shelf.specs.Steps.{loose_upto, lowest, highest}
-use Rattle.fd_shelf.specs.Replacing.{IsChanged}
+use Rattle.fd_shelf.specs.Replacement.{IsChanged}
 use Rattle.fd_compact.specs.Sealable.{AreSealable}
 use Rattle.fd_compact.proofs.Loose.{two_are_some, loose_sealable}
 use Rattle.fd_compact.proofs.compacting.compact_picked.Goals as goal

@@ -1,5 +1,5 @@
 use Rattle.std.proofs.Common.{subst}
-use Rattle.fd_shelf.specs.Replacing.{HandsBack}
+use Rattle.fd_shelf.specs.Replacement.{HandsBack}
 use Rattle.fd_compact.proofs.compacting.put.Goals as goal
 
 pub unreachable-requires-in-Err-Changed : goal.unreachable-requires-in-Err-Changed
