@@ -5,6 +5,8 @@ ghost use Rattle.fd_shelf.specs.Steps.{is_loose};
 ghost use Rattle.fd_shelf.specs.Replacement.{IsInOrder, IsFirstLoose, IsRunAt, IsChanged, IsLeast};
 
 use fd_kinds::Held;
+use std::error::Error;
+use std::fmt;
 
 /// A part that replaces no others, and why.
 #[derive(Debug, Drop)]
@@ -15,6 +17,17 @@ pub enum NotReplaced<P> {
     /// part.
     Changed { at: u64, part: P },
 }
+
+impl<P> fmt::Display for NotReplaced<P> {
+    fn fmt<W: fmt::Write>(&self, f: &mut fmt::Formatter<W>) -> fmt::Result {
+        match self {
+            NotReplaced::Overtaken { block, .. } => write!(f, "the active block is {block}"),
+            NotReplaced::Changed { at, .. } => write!(f, "the parts changed at number {at}"),
+        }
+    }
+}
+
+impl<P: fmt::Debug + Drop> Error for NotReplaced<P> {}
 
 /// The place and the number of the first loose part.
 fn first_loose<P: Held>(parts: &[P]) -> Option<(usize, u64)>
