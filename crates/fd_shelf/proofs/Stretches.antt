@@ -22,7 +22,7 @@ use Rattle.fd_shelf.proofs.Runs.{follows_split, follows_upto}
 use Rattle.fd_shelf.proofs.RowPermutations.{same_in_any_order}
 use Rattle.fd_shelf.proofs.Spans.{each_at}
 
-ends_at : (first hi last : ℕ) (parts : List PartMeaning) → Follows first parts last → first ≡ hi + 1 → last_hi hi parts ≡ last
+pub ends_at : (first hi last : ℕ) (parts : List PartMeaning) → Follows first parts last → first ≡ hi + 1 → last_hi hi parts ≡ last
 ends_at first hi last [] follows next = omega (arith, follows, next)
 ends_at first hi last (p ∷ ps) follows next = ends_at (p.hi + 1) p.hi last ps follows.2 refl
 

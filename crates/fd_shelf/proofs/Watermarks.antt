@@ -12,6 +12,7 @@ use Rattle.fd_kinds.specs.History.{upto}
 use Rattle.fd_kinds.specs.Parts.{PartMeaning, IsPart, IsWithin, rows_of}
 use Rattle.fd_kinds.specs.RowOrder.{row_cmp}
 use Rattle.fd_shelf.specs.Books.{Book, IsBook, Each, Follows, has_number, all_parts, settled_parts, rows_in}
+use Rattle.fd_shelf.specs.Marks.{end_of, IsWellFormed}
 use Rattle.fd_shelf.specs.Histories.{batch_at, batches_from, hist, put_row, in_row_order}
 use Rattle.fd_shelf.specs.Steps.{is_upto, IsWholeAt}
 use Rattle.fd_shelf.proofs.Batches.{batches_permute}
@@ -20,6 +21,7 @@ use Rattle.fd_shelf.proofs.HistoryLaws.{none_below, rows_of_number, split_rows, 
 use Rattle.fd_shelf.proofs.Numbers.{by_number, by_number_permutes}
 use Rattle.fd_shelf.proofs.ReplacementLaws.{none_waiting}
 use Rattle.fd_shelf.proofs.Runs.{follows_upto}
+use Rattle.fd_shelf.proofs.Stretches.{ends_at}
 
 if_true : {A : Type 0} (b : Bool) (x y : A) → b ≡ true → (if b then x else y) ≡ x
 if_true b x y e = rw e refl
@@ -37,6 +39,14 @@ all_upto first mark w (p ∷ ps) follows high =
 -- From the mark on, all parts of the blocks are told.
 pub upto_mark : (book : Book) (mark w : ℕ) → IsBook book mark → mark ≤ w → filter (is_upto w) (settled_parts book) ≡ settled_parts book
 upto_mark book mark w order high = all_upto 1 mark w (settled_parts book) order.settled high
+
+-- The mark is the end of the blocks ..
+pub mark_ends : (book : Book) (mark : ℕ) → IsBook book mark → mark ≡ end_of book
+mark_ends book mark order = sym (ends_at 1 0 mark (settled_parts book) order.settled (omega arith))
+
+-- .. and apart from it the book is well formed.
+pub well_formed : (book : Book) (mark : ℕ) → IsBook book mark → IsWellFormed book
+well_formed book mark order = subst (λ (end : ℕ). IsBook book end) (mark_ends book mark order) order
 
 upto_rows_by : (w n : ℕ) (p : PartMeaning) (ps picked : List PartMeaning) (b : Bool) → is_upto w p ≡ b → IsPart p → n ≤ w → rows_of_number picked n ≡ rows_of_number ps n
     → rows_of_number (if b then p ∷ picked else picked) n ≡ rows_of_number (p ∷ ps) n
