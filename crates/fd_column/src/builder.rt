@@ -1,13 +1,13 @@
 ghost use Rattle.std.specs.Prelude.{◌≡◌, ◌<◌, ◌^◌, [], ◌∷◌, ◌++◌, List, IfOk, OnOk, IsSorted};
 ghost use Rattle.fd_kinds.specs.declared.row.Numbered.{Numbered};
-ghost use Rattle.fd_column.specs.RowNumbers.{numbered_cmp};
+ghost use Rattle.fd_kinds.specs.Parts.{with_number};
+ghost use Rattle.fd_column.specs.Numbering.{numbered_cmp};
 
 use crate::part::ColumnPart;
 use crate::table::Table;
 use crate::table_builder::{finished_table, new_table, push_row};
 use crate::texts::row_is_utf8;
-use fd_dictionary::DictionaryBuilder;
-use fd_kinds::{NoMemory, Numbered};
+use fd_kinds::{NoMemory, Numbered, Row};
 use std::alloc::Global;
 use std::marker::Model;
 
@@ -41,15 +41,23 @@ impl PartBuilder {
         }
     }
 
+    /// The rows and one more, with its number. A frame of 2^32 bytes or more wants memory.
+    pub fn with_numbered(self, number: u64, row: &Row) -> Result<PartBuilder, NoMemory>
+        requires { number < 2 ^ 63 }
+        ensures { IfOk result (λ builder. builder ≡ self ++ with_number number (row.now ∷ [])) }
+    {
+        let PartBuilder { mut table } = self;
+        row_is_utf8(row);
+        push_row(&mut table, number, row)?;
+        Ok(PartBuilder { table })
+    }
+
     /// The rows and one more. A frame of 2^32 bytes or more wants memory.
     pub fn with_row(self, row: &Numbered) -> Result<PartBuilder, NoMemory>
         requires { row.now.number < 2 ^ 63 }
         ensures { IfOk result (λ builder. builder ≡ self ++ row.now ∷ []) }
     {
-        let PartBuilder { mut table } = self;
-        row_is_utf8(&row.row);
-        push_row(&mut table, row)?;
-        Ok(PartBuilder { table })
+        self.with_numbered(row.number, &row.row)
     }
 
     /// The part of these rows, which are in order.
