@@ -1,3 +1,3 @@
-pub mod Opened
+pub mod FaultLaws
 pub mod Orders
 pub mod Sums

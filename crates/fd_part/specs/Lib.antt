@@ -1,3 +1,3 @@
 pub mod Parts
-pub mod Ranged
+pub mod Ranges
 pub mod Sizes

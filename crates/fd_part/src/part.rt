@@ -1,4 +1,5 @@
-ghost use Rattle.std.specs.Prelude.{◌≡◌, ◌≢◌, ◌≤◌, ◌<◌, ◌^◌, ℕ, true, List, All, is_some, IfOk, IfErr, IfSome};
+ghost use Rattle.std.specs.Prelude.{◌≡◌, ◌≢◌, ◌≤◌, ◌<◌, ◌^◌, ℕ, true, List, All};
+ghost use Rattle.std.specs.Prelude.{is_some, IfOk, IfErr, IfSome};
 ghost use Rattle.fd_kinds.specs.declared.row.Numbered.{Numbered};
 ghost use Rattle.fd_kinds.specs.Parts.{IsWithin, loose_part, rows_of};
 ghost use Rattle.fd_footer.specs.declared.footer.Pages.TheVariants.{Plain};
@@ -6,42 +7,48 @@ ghost use Rattle.fd_table_file.specs.Files.{IsSmall, IsFileOf};
 ghost use Rattle.fd_parquet.specs.Refusals.{Refuses, IsRefused, Gives};
 ghost use Rattle.fd_parquet.specs.declared.fault.FileFault.{FileFault as AnyFault};
 ghost use Rattle.fd_part.specs.Parts.{part_meaning};
-ghost use Rattle.fd_part.specs.Ranged.{sealed_part};
+ghost use Rattle.fd_part.specs.Ranges.{sealed_part};
 
-use crate::columned::Columned;
-use crate::sealed::Sealed;
+use crate::batch_columns::BatchColumns;
+use crate::sealed_range::SealedRange;
 use fd_column::{ColumnPart, Columns};
 use fd_kinds::{Batch, Bytes, Held, NoMemory};
-use fd_parquet::FileFault;
+use fd_parquet::{FileFault, FileTable, read_file};
 
 /// How a part keeps its rows.
 #[derive(Debug, Drop)]
 enum Form {
     /// One batch, and its number.
-    Loose { number: u64, columned: Columned },
+    Loose { number: u64, columns: BatchColumns },
     /// The rows of a range of numbers, and their file.
-    Filed(Sealed),
+    Sealed(SealedRange),
 }
 
-/// One batch by columns, or the rows of a range of numbers with their file. It is shared without a
-/// copy of its rows.
+/// A loose part, which is one batch by columns, or a sealed one, which is the rows of a range of
+/// numbers with their file. It is shared without a copy of its rows. Only a loose part may be given
+/// another number, and only before others share it: each share keeps the number that it was made
+/// with.
 #[derive(Debug, Drop)]
 pub struct Part {
     form: Form,
 }
 
 impl Part {
-    /// A batch that has no number yet.
+    /// The loose part of a batch that has no number yet. The batch stays as it is.
+    pub fn of(batch: &Batch) -> Result<Part, NoMemory>
+        ensures { IfOk result (λ part. part_meaning part ≡ loose_part 0 batch.now.rows) }
+    {
+        let columns = BatchColumns::of(batch)?;
+        Ok(Part {
+            form: Form::Loose { number: 0, columns },
+        })
+    }
+
+    /// The loose part of a batch that has no number yet and is let go.
     pub fn fresh(batch: Batch) -> Result<Part, NoMemory>
         ensures { IfOk result (λ part. part_meaning part ≡ loose_part 0 batch.rows) }
     {
-        let columned = Columned::of(batch)?;
-        Ok(Part {
-            form: Form::Loose {
-                number: 0,
-                columned,
-            },
-        })
+        Part::of(&batch)
     }
 
     /// The sealed part of a table whose numbers lie from `lo` to `hi`, with its file. The table is
@@ -53,32 +60,44 @@ impl Part {
         requires small { IsSmall table.now }
         ensures { IfOk result (λ part. part_meaning part ≡ sealed_part lo hi table.now) }
     {
-        let sealed = Sealed::of(table, lo, hi)?;
+        let range = SealedRange::of(table, lo, hi)?;
         Ok(Part {
-            form: Form::Filed(sealed),
+            form: Form::Sealed(range),
         })
     }
 
-    /// The sealed part of the file of a table (parquet-format, `README.md`, "File format"), as `seal`
-    /// makes it. The bytes are kept and not copied. Other bytes are refused: `Magic` where they have
-    /// not the magic at both ends, `Footer` where no footer stands there, `Schema` where its columns or
-    /// entries are none of a table's, and `Page` with the first column whose bytes are not its cells,
-    /// or with the number of columns where all are and yet the file is that of no table.
+    /// The sealed part of the file of a table (parquet-format, `README.md`, "File format"), as
+    /// `seal` makes it. The bytes are kept and not copied. Other bytes are refused: `Magic` where
+    /// they have not the magic at both ends, `Footer` where no footer stands there, `Schema` where
+    /// its columns or entries are none of a table's, and `Page` with the first column whose bytes
+    /// are not its cells, or with the number of columns where all are and yet the file is that of
+    /// no table.
     pub fn opened(file: Bytes) -> Result<Part, FileFault>
         // What is opened is sealed, and has this file.
-        ensures found { IfOk result (λ part. ((part_meaning part).sealed ≡ true) × IsFileOf Plain file (part_meaning part).rows (part_meaning part).lo (part_meaning part).hi) }
+        ensures found { IfOk result (λ part.
+            ((part_meaning part).sealed ≡ true)
+            × IsFileOf
+            Plain
+            file
+            (part_meaning part).rows
+            (part_meaning part).lo
+            (part_meaning part).hi) }
         // Each file of a table is opened, unless memory runs out.
-        ensures only { (rows : List Numbered) (lo hi : ℕ) → IsFileOf Plain file rows lo hi → Gives part_meaning result (sealed_part lo hi rows) }
+        ensures only { (rows : List Numbered) (lo hi : ℕ)
+            → IsFileOf Plain file rows lo hi
+            → Gives part_meaning result (sealed_part lo hi rows) }
         // Other bytes are refused by the one fault that is theirs, unless memory runs out.
         ensures refused { IfErr result (λ fault. fault ≢ FileFault.NoMemory → Refuses file fault) }
         ensures refused_only { (fault : AnyFault) → Refuses file fault → IsRefused fault result }
     {
-        match Sealed::opened(file) {
-            Ok(sealed) => Ok(Part {
-                form: Form::Filed(sealed),
-            }),
-            Err(fault) => Err(fault),
-        }
+        let FileTable { table, lo, hi } = match read_file(file.allocator(), file.as_slice()) {
+            Ok(read) => read,
+            Err(fault) => return Err(fault),
+        };
+        let range = SealedRange::with_file(table, lo, hi, file)?;
+        Ok(Part {
+            form: Form::Sealed(range),
+        })
     }
 
     /// The columns of the numbered rows, which cost no copy.
@@ -87,8 +106,8 @@ impl Part {
         ensures { IfOk result (λ columns. columns ≡ (part_meaning self.now).rows) }
     {
         match &self.form {
-            Form::Loose { number, columned } => columned.numbered(*number),
-            Form::Filed(sealed) => sealed.filed.columns().share(),
+            Form::Loose { number, columns } => columns.numbered(*number),
+            Form::Sealed(range) => range.columns.share(),
         }
     }
 
@@ -98,19 +117,25 @@ impl Part {
         ensures { rows_of result.now ≡ rows_of (part_meaning self.now).rows }
     {
         match &self.form {
-            Form::Loose { columned, .. } => columned.columns(),
-            Form::Filed(sealed) => sealed.filed.columns(),
+            Form::Loose { columns, .. } => columns.columns(),
+            Form::Sealed(range) => &range.columns,
         }
     }
 
-    /// The bytes of the part's file, none where it is not sealed. It takes no memory.
+    /// The bytes of the part's file, none for a loose part. It takes no memory.
     pub fn file(&self) -> Option<&[u8]>
         ensures sealed { is_some result ≡ (part_meaning self.now).sealed }
-        ensures filed { IfSome result (λ bytes. IsFileOf Plain bytes.now (part_meaning self.now).rows (part_meaning self.now).lo (part_meaning self.now).hi) }
+        ensures filed { IfSome result (λ bytes.
+            IsFileOf
+            Plain
+            bytes.now
+            (part_meaning self.now).rows
+            (part_meaning self.now).lo
+            (part_meaning self.now).hi) }
     {
         match &self.form {
             Form::Loose { .. } => None,
-            Form::Filed(sealed) => Some(sealed.filed.file()),
+            Form::Sealed(range) => Some(range.file.as_slice()),
         }
     }
 }
@@ -125,47 +150,47 @@ impl Held for Part {
     fn lo(&self) -> u64 {
         match &self.form {
             Form::Loose { number, .. } => *number,
-            Form::Filed(sealed) => sealed.filed.lo(),
+            Form::Sealed(range) => range.lo,
         }
     }
 
     fn hi(&self) -> u64 {
         match &self.form {
             Form::Loose { number, .. } => *number,
-            Form::Filed(sealed) => sealed.filed.hi(),
+            Form::Sealed(range) => range.hi,
         }
     }
 
     fn sealed(&self) -> bool {
         match &self.form {
             Form::Loose { .. } => false,
-            Form::Filed(_) => true,
+            Form::Sealed(_) => true,
         }
     }
 
     #[tactic(auto, using(fd_kinds::proofs::PartLaws::length_with_number))]
     fn rows(&self) -> u64 {
         match &self.form {
-            Form::Loose { columned, .. } => columned.len() as u64,
-            Form::Filed(sealed) => sealed.filed.columns().len() as u64,
+            Form::Loose { columns, .. } => columns.len() as u64,
+            Form::Sealed(range) => range.columns.len() as u64,
         }
     }
 
     #[tactic(auto, using(fd_kinds::proofs::PartLaws::sum_by_with_number))]
     fn bytes(&self) -> u64 {
         match &self.form {
-            Form::Loose { columned, .. } => columned.bytes(),
-            Form::Filed(sealed) => sealed.filed.bytes(),
+            Form::Loose { columns, .. } => columns.bytes(),
+            Form::Sealed(range) => range.bytes,
         }
     }
 
     fn share(&self) -> Result<Part, NoMemory> {
         let form = match &self.form {
-            Form::Loose { number, columned } => Form::Loose {
+            Form::Loose { number, columns } => Form::Loose {
                 number: *number,
-                columned: columned.share()?,
+                columns: columns.share()?,
             },
-            Form::Filed(sealed) => Form::Filed(sealed.share()?),
+            Form::Sealed(range) => Form::Sealed(range.share()?),
         };
         Ok(Part { form })
     }
@@ -174,7 +199,7 @@ impl Held for Part {
     fn number(&mut self, number: u64) {
         match &mut self.form {
             Form::Loose { number: own, .. } => *own = number,
-            Form::Filed(_) => {}
+            Form::Sealed(_) => {}
         }
     }
 }

@@ -4,18 +4,18 @@ ghost use Rattle.fd_kinds.specs.RowOrder.{row_cmp};
 ghost use Rattle.fd_part.specs.Sizes.{bytes_of};
 
 use fd_column::{ColumnPart, Columns, PartBuilder};
-use fd_kinds::{Batch, NoMemory, Numbered, Row, Rows, row_bytes};
+use fd_kinds::{Batch, NoMemory, Row, row_bytes};
 use std::alloc::Global;
 use std::marker::Model;
 
 /// The rows of a batch by columns, and their bytes, which contracts see as the list of the rows.
 #[derive(Debug, Drop)]
-pub struct Columned {
+pub struct BatchColumns {
     columns: ColumnPart,
     bytes: u64,
 }
 
-impl Model for Columned {
+impl Model for BatchColumns {
     ghost use Rattle.std.specs.Prelude.{◌≡◌, List};
     ghost use Rattle.fd_kinds.specs.declared.row.Row.{Row};
     ghost use Rattle.fd_kinds.specs.Parts.{rows_of};
@@ -39,42 +39,35 @@ fn sum_of(rows: &[Row]) -> u64
     sum
 }
 
-/// Adds a row with the number 0.
-fn with_row(builder: PartBuilder, row: Row) -> Result<PartBuilder, NoMemory>
-    ensures { IfOk result (λ more. more ≡ builder ++ with_number 0 (row ∷ [])) }
-{
-    builder.with_row(&Numbered { number: 0, row })
-}
-
 /// The rows, each with the number 0.
-fn numbered_rows(alloc: Global, rows: Rows) -> Result<PartBuilder, NoMemory>
-    ensures { IfOk result (λ builder. builder ≡ with_number 0 rows) }
+fn numbered_rows(alloc: Global, rows: &[Row]) -> Result<PartBuilder, NoMemory>
+    ensures { IfOk result (λ builder. builder ≡ with_number 0 rows.now) }
 {
     let mut builder = PartBuilder::new(alloc);
-    for row in rows.into_vec() {
-        builder = with_row(builder, row)?;
+    for row in rows {
+        builder = builder.with_numbered(0, row)?;
     }
     Ok(builder)
 }
 
 /// The columns of the rows, which are in order, with the number 0.
-fn columns_of(alloc: Global, rows: Rows) -> Result<ColumnPart, NoMemory>
-    requires { IsSorted row_cmp rows }
-    ensures { IfOk result (λ columns. columns ≡ with_number 0 rows) }
+fn columns_of(alloc: Global, rows: &[Row]) -> Result<ColumnPart, NoMemory>
+    requires { IsSorted row_cmp rows.now }
+    ensures { IfOk result (λ columns. columns ≡ with_number 0 rows.now) }
 {
     let builder = numbered_rows(alloc, rows)?;
     builder.finish()
 }
 
-impl Columned {
-    /// The rows of the batch.
-    pub fn of(batch: Batch) -> Result<Columned, NoMemory>
-        ensures { IfOk result (λ columned. columned ≡ batch.rows) }
+impl BatchColumns {
+    /// The rows of the batch, which stays as it is.
+    pub fn of(batch: &Batch) -> Result<BatchColumns, NoMemory>
+        ensures { IfOk result (λ columns. columns ≡ batch.now.rows) }
     {
-        let rows = batch.rows;
-        let bytes = sum_of(rows.as_slice());
-        let columns = columns_of(rows.allocator(), rows)?;
-        Ok(Columned { columns, bytes })
+        let rows = batch.rows.as_slice();
+        let bytes = sum_of(rows);
+        let columns = columns_of(batch.rows.allocator(), rows)?;
+        Ok(BatchColumns { columns, bytes })
     }
 
     /// How many rows there are.
@@ -107,11 +100,11 @@ impl Columned {
     }
 
     /// The same rows, which cost no copy.
-    pub fn share(&self) -> Result<Columned, NoMemory>
+    pub fn share(&self) -> Result<BatchColumns, NoMemory>
         ensures { IfOk result (λ copy. copy ≡ self.now) }
     {
         let columns = self.columns.share()?;
-        Ok(Columned {
+        Ok(BatchColumns {
             columns,
             bytes: self.bytes,
         })
