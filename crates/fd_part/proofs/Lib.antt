@@ -1,3 +1,4 @@
+pub mod BatchSizes
 pub mod FaultLaws
 pub mod Orders
 pub mod Sums

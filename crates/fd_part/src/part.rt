@@ -1,15 +1,17 @@
-ghost use Rattle.std.specs.Prelude.{◌≡◌, ◌≢◌, ◌≤◌, ◌<◌, ◌^◌, ℕ, true, List, All};
-ghost use Rattle.std.specs.Prelude.{is_some, IfOk, IfErr, IfSome};
+ghost use Rattle.std.specs.Prelude.{◌≡◌, ◌≢◌, ◌≤◌, ◌<◌, ◌^◌, ◌↔◌, ℕ, true, List, All};
+ghost use Rattle.std.specs.Prelude.{is_some, IfOk, IfErr, IfSome, IsTrue};
 ghost use Rattle.fd_kinds.specs.declared.row.Numbered.{Numbered};
 ghost use Rattle.fd_kinds.specs.Parts.{IsWithin, loose_part, rows_of};
 ghost use Rattle.fd_footer.specs.declared.footer.Pages.TheVariants.{Plain};
 ghost use Rattle.fd_table_file.specs.Files.{IsSmall, IsFileOf};
 ghost use Rattle.fd_parquet.specs.Refusals.{Refuses, IsRefused, Gives};
 ghost use Rattle.fd_parquet.specs.declared.fault.FileFault.{FileFault as AnyFault};
+ghost use Rattle.fd_shelf.specs.Books.{HasSmallBatches};
 ghost use Rattle.fd_part.specs.Parts.{part_meaning};
 ghost use Rattle.fd_part.specs.Ranges.{sealed_part};
 
 use crate::batch_columns::BatchColumns;
+use crate::batch_sizes::{MOST_BATCH, has_small_batches};
 use crate::sealed_range::SealedRange;
 use fd_column::{ColumnPart, Columns};
 use fd_kinds::{Batch, Bytes, Held, NoMemory};
@@ -98,6 +100,17 @@ impl Part {
         Ok(Part {
             form: Form::Sealed(range),
         })
+    }
+
+    /// Whether the rows of each number have at most 150,994,944 bytes by `fd_kinds::row_bytes`, as
+    /// those of a batch do. It takes memory for the numbers that occur.
+    pub fn has_small_batches(&self) -> Result<bool, NoMemory>
+        ensures { IfOk result (λ small. IsTrue small ↔ HasSmallBatches (part_meaning self.now)) }
+    {
+        match &self.form {
+            Form::Loose { columns, .. } => Ok(columns.bytes() <= MOST_BATCH),
+            Form::Sealed(range) => has_small_batches(range.file.allocator(), &range.columns),
+        }
     }
 
     /// The columns of the numbered rows, which cost no copy.
