@@ -1,2 +1,2 @@
-pub mod Halves
-pub mod Loose
+pub mod LooseParts
+pub mod RunRows

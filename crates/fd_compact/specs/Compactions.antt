@@ -6,7 +6,7 @@ use Rattle.fd_shelf.specs.Steps.{lowest, highest, is_loose}
 use Rattle.fd_shelf.specs.Replacement.{replaced}
 use Rattle.fd_compact.specs.declared.compaction.Compaction.{Compaction}
 use Rattle.fd_compact.specs.declared.compaction.Compaction.TheVariants.{Compacted, Nothing, Overtaken, Changed}
-use Rattle.fd_compact.specs.Sealable.{IsSealOf}
+use Rattle.fd_compact.specs.Runs.{IsSealOf}
 
 -- one sealed part stands in place of the parts, and all else of the shelf is as it was
 pub record IsSealedOver (parts : List PartMeaning) (old new : Shelved) : Type 0 where
@@ -29,7 +29,7 @@ Compacts parts old (Nothing count) new = (length parts < 2) × (count ≡ length
 Compacts parts old (Overtaken block) new = ⊥
 Compacts parts old (Changed at) new = ⊥
 
--- all parts of the active block that are not sealed
+-- all loose parts of the active block
 abbrev pub loose_parts : Shelved → List PartMeaning
 loose_parts shelf = filter is_loose shelf.book.active
 

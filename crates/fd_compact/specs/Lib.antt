@@ -1,2 +1,2 @@
 pub mod Compactions
-pub mod Sealable
+pub mod Runs

@@ -7,6 +7,6 @@ pub enum Compaction {
     Nothing { parts: u64 },
     /// The block of the parts was closed meanwhile, and the active one is this.
     Overtaken { block: u64 },
-    /// A part of this number, which is not sealed, was gone meanwhile.
+    /// A loose part of this number was gone meanwhile.
     Changed { at: u64 },
 }

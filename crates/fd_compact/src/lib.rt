@@ -1,10 +1,11 @@
-//! Compaction of a shelf: the parts of its active block that are not sealed as one sealed part.
+//! Compaction of a shelf: the loose parts of its active block as one sealed part.
 #![tactic(auto)]
 
-mod compacting;
 mod compaction;
-mod sealing;
+mod compactor;
+mod runs;
 mod tables;
 
-pub use compacting::{compact_full, compact_shelf};
 pub use compaction::Compaction;
+pub use compactor::{compact_full, compact_shelf};
+pub use runs::{SealedRun, sealed_run};

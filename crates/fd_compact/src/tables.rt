@@ -1,8 +1,8 @@
 ghost use Rattle.std.specs.Prelude.{◌≡◌, ◌<◌, length, map, IfOk, IsPermutation};
 ghost use Rattle.fd_part.specs.Parts.{part_meaning};
 ghost use Rattle.fd_shelf.specs.Books.{Each, rows_in};
+ghost use Rattle.fd_shelf.specs.Runs.{IsNumbered};
 ghost use Rattle.fd_shelf.specs.Steps.{lowest, highest};
-ghost use Rattle.fd_compact.specs.Sealable.{IsNumbered};
 
 use fd_column::ColumnPart;
 use fd_kinds::{Held, NoMemory};
@@ -32,7 +32,8 @@ pub(crate) fn last_number(parts: &[InBlock<Part>]) -> u64
 pub(crate) fn table_of(alloc: Global, parts: &[InBlock<Part>]) -> Result<ColumnPart, NoMemory>
     requires some { 0 < length parts.now }
     requires numbered { Each IsNumbered (map (λ i. part_meaning i.part) parts.now) }
-    ensures { IfOk result (λ table. IsPermutation (rows_in (map (λ i. part_meaning i.part) parts.now)) table) }
+    ensures { IfOk result (λ table.
+        IsPermutation (rows_in (map (λ i. part_meaning i.part) parts.now)) table) }
 {
     if parts.len() == 1 {
         return parts[0].part.columns();

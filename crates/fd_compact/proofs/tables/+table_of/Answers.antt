@@ -4,8 +4,8 @@ use Rattle.std.proofs.lemmas.List.{take-append-drop}
 use Rattle.std.proofs.lemmas.Result.{IfOk-weaker}
 use Rattle.fd_part.specs.Parts.{part_meaning}
 use Rattle.fd_shelf.specs.Books.{Each, rows_in}
-use Rattle.fd_compact.specs.Sealable.{IsNumbered}
-use Rattle.fd_compact.proofs.Halves.{rows_of_both, numbered_front, numbered_back}
+use Rattle.fd_shelf.specs.Runs.{IsNumbered}
+use Rattle.fd_compact.proofs.RunRows.{rows_of_both, numbered_front, numbered_back}
 use Rattle.fd_compact.proofs.tables.+table_of.Goals as goal
 
 pub table_of-requires : goal.table_of-requires

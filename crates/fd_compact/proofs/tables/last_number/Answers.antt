@@ -2,7 +2,7 @@ use Rattle.std.proofs.Common.{arith, ap, sym, ◌∙◌, ◌-◌, length}
 use Rattle.fd_part.specs.Parts.{part_meaning}
 use Rattle.fd_part.specs.declared.part.Part.{Part}
 use Rattle.fd_shelf.specs.declared.picks.InBlock.{InBlock}
-use Rattle.fd_compact.proofs.Halves.{last_is}
+use Rattle.fd_compact.proofs.RunRows.{last_is}
 use Rattle.fd_compact.proofs.tables.last_number.Goals as goal
 
 pub returns : goal.returns

@@ -7,7 +7,7 @@ ghost use Rattle.fd_shelf.specs.Replacement.{HasRowsOf, IsChanged, replaced};
 ghost use Rattle.fd_compact.specs.Compactions.{Compacts, CompactsFull, loose_parts};
 
 use crate::Compaction;
-use crate::sealing::{Sealing, sealed_of};
+use crate::runs::{SealedRun, sealed_run};
 use fd_kinds::NoMemory;
 use fd_part::Part;
 use fd_shelf::{NotReplaced, Picked, Shelf};
@@ -15,21 +15,21 @@ use fd_shelf::{NotReplaced, Picked, Shelf};
 /// Fewer parts are not compacted.
 const FEWEST: usize = 2;
 
-/// Parts that are not sealed are compacted where they are so many or more.
+/// Loose parts are compacted where they are so many or more.
 const FULL: u64 = 16;
 
 /// Puts a sealed part in place of the parts of its range, against which no number stands.
-fn put(shelf: &mut Shelf<Part>, sealing: Sealing) -> Compaction
-    requires sealed { IsSealed (part_meaning sealing.part) }
-    requires lo { (part_meaning sealing.part).lo ≡ sealing.lo }
-    requires hi { (part_meaning sealing.part).hi ≡ sealing.hi }
-    requires rows { HasRowsOf (all_parts shelf.old.book) (part_meaning sealing.part) }
-    requires free { (n : ℕ) → IsChanged sealing.lo sealing.hi shelf.old.book.active n → ⊥ }
-    ensures told { result ≡ Compaction.Compacted sealing.lo sealing.hi sealing.rows }
-    ensures placed { shelf.new ≡ replaced (part_meaning sealing.part) shelf.old }
+fn put(shelf: &mut Shelf<Part>, run: SealedRun) -> Compaction
+    requires sealed { IsSealed (part_meaning run.part) }
+    requires lo { (part_meaning run.part).lo ≡ run.lo }
+    requires hi { (part_meaning run.part).hi ≡ run.hi }
+    requires rows { HasRowsOf (all_parts shelf.old.book) (part_meaning run.part) }
+    requires free { (n : ℕ) → IsChanged run.lo run.hi shelf.old.book.active n → ⊥ }
+    ensures told { result ≡ Compaction.Compacted run.lo run.hi run.rows }
+    ensures placed { shelf.new ≡ replaced (part_meaning run.part) shelf.old }
     ensures history { (m : ℕ) → hist shelf.new.book m ≡ hist shelf.old.book m }
 {
-    let Sealing { lo, hi, rows, part } = sealing;
+    let SealedRun { lo, hi, rows, part } = run;
     let active = shelf.active();
     match shelf.replace(active, lo, hi, part) {
         Ok(()) => Compaction::Compacted { lo, hi, rows },
@@ -45,7 +45,8 @@ fn compact_picked(
     picked: &Picked<Part>,
 ) -> Result<Compaction, NoMemory>
     requires { map (λ i. part_meaning i.part) picked.now ≡ loose_upto shelf.old.book limit }
-    ensures compacts { IfOk result (λ done. Compacts (loose_upto shelf.old.book limit) shelf.old done shelf.new) }
+    ensures compacts { IfOk result (λ done.
+        Compacts (loose_upto shelf.old.book limit) shelf.old done shelf.new) }
     ensures unchanged { OnErr result (shelf.new ≡ shelf.old) }
     ensures history { (m : ℕ) → hist shelf.new.book m ≡ hist shelf.old.book m }
 {
@@ -55,18 +56,18 @@ fn compact_picked(
             parts: parts.len() as u64,
         });
     }
-    shelf.is_in_order();
     shelf.level0_laws(limit);
-    let sealing = sealed_of(picked.allocator(), parts)?;
-    Ok(put(shelf, sealing))
+    let sealed = sealed_run(picked.allocator(), parts)?;
+    Ok(put(shelf, sealed))
 }
 
-/// Merges the parts of the active block that are not sealed and hold a number up to the limit, and
-/// puts one sealed part in their place, which changes no batch of the history. Fewer than two parts
-/// stay as they are.
+/// Merges the loose parts of the active block that hold a number up to the limit, and puts one
+/// sealed part in their place, which changes no batch of the history. Fewer than two parts stay as
+/// they are.
 pub fn compact_shelf(shelf: &mut Shelf<Part>, limit: u64) -> Result<Compaction, NoMemory>
     // Exactly fewer than two parts stay; else one sealed part has all their rows in order.
-    ensures compacts { IfOk result (λ done. Compacts (loose_upto shelf.old.book limit) shelf.old done shelf.new) }
+    ensures compacts { IfOk result (λ done.
+        Compacts (loose_upto shelf.old.book limit) shelf.old done shelf.new) }
     ensures unchanged { OnErr result (shelf.new ≡ shelf.old) }
 
     // No batch is changed, and all else stays.
@@ -80,7 +81,7 @@ pub fn compact_shelf(shelf: &mut Shelf<Part>, limit: u64) -> Result<Compaction, 
     compact_picked(shelf, limit, &picked)
 }
 
-/// Compacts all parts of the active block that are not sealed where they are 16 or more.
+/// Compacts all loose parts of the active block where they are 16 or more.
 pub fn compact_full(shelf: &mut Shelf<Part>) -> Result<Option<Compaction>, NoMemory>
     // Exactly fewer than 16 parts stay, which takes no memory; else all are compacted.
     ensures compacts { IfOk result (λ done. CompactsFull shelf.old done shelf.new) }
@@ -97,8 +98,8 @@ pub fn compact_full(shelf: &mut Shelf<Part>) -> Result<Option<Compaction>, NoMem
     if shelf.loose() < FULL {
         return Ok(None);
     }
-    shelf.is_in_order();
     let limit = shelf.mark();
+    shelf.level0_laws(limit);
     let done = compact_shelf(shelf, limit)?;
     Ok(Some(done))
 }

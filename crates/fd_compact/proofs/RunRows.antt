@@ -9,7 +9,7 @@ use Rattle.fd_kinds.specs.declared.row.Numbered.{Numbered}
 use Rattle.fd_kinds.specs.Parts.{PartMeaning}
 use Rattle.fd_shelf.specs.Books.{Each, rows_in}
 use Rattle.fd_shelf.specs.Steps.{lowest, highest, last_hi}
-use Rattle.fd_compact.specs.Sealable.{IsNumbered}
+use Rattle.fd_shelf.specs.Runs.{IsNumbered}
 
 -- the first number is that of the first part
 pub first_is : {I : Type 0} (f : I → PartMeaning) (parts : List I) (i : I) → 0 < length parts → i ≡ get_or parts 0 i → (f i).lo ≡ lowest (map f parts)

@@ -7,7 +7,7 @@ use Rattle.fd_kinds.specs.RowSize.{row_size}
 use Rattle.fd_part.specs.Parts.{part_meaning}
 use Rattle.fd_shelf.specs.Books.{rows_in}
 use Rattle.fd_shelf.specs.Steps.{lowest, highest}
-use Rattle.fd_compact.proofs.sealing.sealed_of.Goals as goal
+use Rattle.fd_compact.proofs.runs.sealed_run.Goals as goal
 
 pub seal-requires-clause-within : goal.seal-requires-clause-within
 seal-requires-clause-within c =
