@@ -1,7 +1,7 @@
 ghost use Rattle.std.specs.Prelude.{◌≡◌, ◌<◌, ◌^◌, [], ◌∷◌, ◌++◌, List, IfOk, OnOk, IsSorted};
 ghost use Rattle.fd_kinds.specs.declared.row.Numbered.{Numbered};
 ghost use Rattle.fd_kinds.specs.Parts.{with_number};
-ghost use Rattle.fd_column.specs.Numbering.{numbered_cmp};
+ghost use Rattle.fd_column.specs.RowNumbers.{numbered_cmp};
 
 use crate::part::ColumnPart;
 use crate::table::Table;

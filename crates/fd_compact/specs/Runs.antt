@@ -1,7 +1,7 @@
 -- One sealed part in place of others.
 use Rattle.std.specs.Prelude.{◌≡◌, IsPermutation, IsSorted, List}
 use Rattle.fd_kinds.specs.Parts.{PartMeaning}
-use Rattle.fd_column.specs.Numbering.{numbered_cmp}
+use Rattle.fd_column.specs.RowNumbers.{numbered_cmp}
 use Rattle.fd_shelf.specs.Books.{IsSealed, rows_in}
 use Rattle.fd_shelf.specs.Steps.{lowest, highest}
 

@@ -3,7 +3,7 @@ use Rattle.std.specs.Prelude.{◌≡◌, ℕ, true, List}
 use Rattle.fd_kinds.specs.declared.row.Numbered.{Numbered}
 use Rattle.fd_kinds.specs.Parts.{PartMeaning, held_bytes}
 use Rattle.fd_footer.specs.declared.footer.Pages.TheVariants.{Plain}
-use Rattle.fd_parquet.specs.Files.{IsFileOf}
+use Rattle.fd_table_file.specs.Files.{IsFileOf}
 
 -- these bytes are the file of the rows, whose bytes in the log are counted
 pub record IsFiled (file : List ℕ) (rows : List Numbered) (lo hi bytes : ℕ) : Type 0 where

@@ -2,7 +2,7 @@ ghost use Rattle.std.specs.Prelude.{◌≡◌, ◌≤◌, ◌<◌, ◌+◌, ◌^
 ghost use Rattle.std.specs.Arc.{arc_value};
 ghost use Rattle.fd_kinds.specs.Parts.{IsWithin, held_bytes};
 ghost use Rattle.fd_footer.specs.declared.footer.Pages.TheVariants.{Plain};
-ghost use Rattle.fd_parquet.specs.Files.{IsSmall, IsFileOf};
+ghost use Rattle.fd_table_file.specs.Files.{IsSmall, IsFileOf};
 ghost use Rattle.fd_part.specs.Ranges.{IsFiled, sealed_part};
 
 use fd_column::{ColumnPart, Columns};

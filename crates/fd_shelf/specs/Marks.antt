@@ -1,7 +1,8 @@
--- A book apart from the mark that it is read at.
-use Rattle.std.specs.Prelude.{ℕ}
+-- A book apart from the mark that it is read at, and what its blocks keep.
+use Rattle.std.specs.Prelude.{◌≡◌, ℕ, List, Some, slice_get}
+use Rattle.fd_kinds.specs.Parts.{PartMeaning}
 use Rattle.fd_shelf.specs.Books.{Book, IsBook, settled_parts}
-use Rattle.fd_shelf.specs.Steps.{highest}
+use Rattle.fd_shelf.specs.Steps.{lowest, highest}
 
 -- the last number of the blocks, and 0 where they have none
 abbrev pub end_of : Book → ℕ
@@ -11,3 +12,14 @@ end_of book = highest (settled_parts book)
 -- which follow it.
 abbrev pub IsWellFormed : Book → Type 0
 IsWellFormed book = IsBook book (end_of book)
+
+-- the closed block of this number, with its range
+pub record IsClosedBlock (book : Book) (block lo hi : ℕ) : Type 0 where
+  pub parts : List PartMeaning
+  pub here : slice_get book.closed block ≡ Some parts
+  pub begins : lo ≡ lowest parts
+  pub ends : hi ≡ highest parts
+
+-- each closed block stays, with its range
+abbrev pub KeepsClosed : Book → Book → Type 0
+KeepsClosed old new = (block lo hi : ℕ) → IsClosedBlock old block lo hi → IsClosedBlock new block lo hi
