@@ -12,7 +12,7 @@ use crate::question::{Question, query_of};
 use crate::route::{Listing, Route, Summing, method_name, method_of, route_of};
 use crate::target::{last_value, parameters, split_target};
 use fd_http::Request;
-use fd_json::{BodyFault, Fault, Parameter, read_body, read_sent};
+use fd_json::{BodyFault, Fault, Parameter, read_body};
 use fd_kinds::{Bytes, NoMemory, Pair, RawBody, Selector, Text, Window, read_size};
 use fd_pprof::ProfileFault;
 use fd_rows::{BatchFault, LabelFault, batch};
@@ -93,20 +93,11 @@ fn decide_batch(alloc: Global, body: &RawBody) -> Result<Asked, NoMemory>
     }
 }
 
-fn decide_body(alloc: Global, bytes: &[u8]) -> Result<Asked, NoMemory>
-    ensures { IfOk result (AsksBody (body_of bytes.now)) }
-{
-    match read_body(alloc, bytes) {
-        Ok(body) => decide_batch(alloc, &body),
-        Err(fault) => Ok(Asked::Refused(body_fault(fault)?)),
-    }
-}
-
-/// What a body asks that is let go as soon as it is read.
-fn decide_sent(alloc: Global, bytes: Bytes) -> Result<Asked, NoMemory>
+/// What a body asks, which is let go as soon as it is read.
+fn decide_body(alloc: Global, bytes: Bytes) -> Result<Asked, NoMemory>
     ensures { IfOk result (AsksBody (body_of bytes)) }
 {
-    match read_sent(alloc, bytes) {
+    match read_body(alloc, bytes) {
         Ok(body) => decide_batch(alloc, &body),
         Err(fault) => Ok(Asked::Refused(body_fault(fault)?)),
     }
@@ -317,22 +308,12 @@ fn decide_head(alloc: Global, request: &Request) -> Result<Option<Asked>, NoMemo
     decide_route(alloc, route, request, query)
 }
 
-/// What a request asks.
-pub(crate) fn decide(alloc: Global, request: &Request) -> Result<Asked, NoMemory>
-    ensures { IfOk result (Asks request.now) }
-{
-    match decide_head(alloc, request)? {
-        Some(asked) => Ok(asked),
-        None => decide_body(alloc, request.body.as_slice()),
-    }
-}
-
-/// What a request asks whose body is let go as soon as it is read.
-pub(crate) fn decide_moved(alloc: Global, request: Request) -> Result<Asked, NoMemory>
+/// What a request asks, whose body is let go as soon as it is read.
+pub(crate) fn decide(alloc: Global, request: Request) -> Result<Asked, NoMemory>
     ensures { IfOk result (Asks request) }
 {
     match decide_head(alloc, &request)? {
         Some(asked) => Ok(asked),
-        None => decide_sent(alloc, request.body),
+        None => decide_body(alloc, request.body),
     }
 }

@@ -6,7 +6,7 @@ ghost use Rattle.fd_http.specs.Replies.{CanBeSent, is_made_status};
 ghost use Rattle.fd_api.specs.Replies.{IsReply, done, refusal, not_allowed, short, status_of};
 ghost use Rattle.fd_api.specs.Handles.{Does, Handles};
 
-use crate::decide::{decide, decide_moved};
+use crate::decide::decide;
 use crate::{Accepted, Asked, Note};
 use fd_http::{Method, Request, Response};
 use fd_json::{Fault, answer_text, fault_text, number_text, stand_text};
@@ -195,20 +195,9 @@ fn carry_out<T: Store>(alloc: Global, store: &mut T, asked: Result<Asked, NoMemo
 }
 
 /// Handles a request: decides what it asks, does that to the store, and makes the reply, which
-/// does not close the session. Want of memory is replied to by `Short`.
-pub fn handle<T: Store>(alloc: Global, store: &mut T, request: &Request) -> Handled
-    requires { T.has_failed store.old ≡ false }
-    ensures handles { Handles T.write_gives T.read_gives T.stand_gives request.now store.old result.note result.reply store.new }
-    ensures sendable { CanBeSent result.reply }
-    ensures fault { result.note ≡ Note.Faulted → Rose (T.faults store.old) (T.faults store.new) }
-    ensures healthy { result.note ≢ Note.Faulted → T.has_failed store.new ≡ false }
-    ensures kept { result.note ≢ Note.Faulted → T.faults store.new ≡ T.faults store.old }
-{
-    carry_out(alloc, store, decide(alloc, request))
-}
-
-/// Handles a request as `handle` does, and lets its body go as soon as that is read.
-pub(crate) fn handle_moved<T: Store>(alloc: Global, store: &mut T, request: Request) -> Handled
+/// does not close the session. Its body is let go as soon as it is read. Want of memory is replied
+/// to by `Short`.
+pub fn handle<T: Store>(alloc: Global, store: &mut T, request: Request) -> Handled
     requires { T.has_failed store.old ≡ false }
     ensures handles { Handles T.write_gives T.read_gives T.stand_gives request store.old result.note result.reply store.new }
     ensures sendable { CanBeSent result.reply }
@@ -216,5 +205,5 @@ pub(crate) fn handle_moved<T: Store>(alloc: Global, store: &mut T, request: Requ
     ensures healthy { result.note ≢ Note.Faulted → T.has_failed store.new ≡ false }
     ensures kept { result.note ≢ Note.Faulted → T.faults store.new ≡ T.faults store.old }
 {
-    carry_out(alloc, store, decide_moved(alloc, request))
+    carry_out(alloc, store, decide(alloc, request))
 }

@@ -6,7 +6,7 @@ ghost use Rattle.fd_api.specs.Replies.{IsSent, closing};
 ghost use Rattle.fd_api.specs.Sessions.{Serves, Ends, SourceCause, SinkCause, StoreCause, is_faulted};
 ghost use Rattle.fd_api.specs.Turns.{PutsReply, Dismisses, Short, EndsAt, Turns, after_reply};
 
-use crate::handling::{handle_moved, refuse};
+use crate::handling::{handle, refuse};
 use crate::{Handled, Note, Notes};
 use fd_device::{Put, Sink, Source};
 use fd_http::{Arrived, Inbox, Request, RequestFault, Response, SendFault, next_request, reply};
@@ -153,7 +153,7 @@ fn answer<T: Store, K: Sink>(
     ensures kept { is_faulted result.0 ≡ false → T.faults store.new ≡ T.faults store.old }
 {
     let asked = request.close;
-    let Handled { reply, note } = handle_moved(alloc, store, request);
+    let Handled { reply, note } = handle(alloc, store, request);
     let close = closes(asked, note, last);
     let put = send(alloc, out, reply, close);
     (note, put)

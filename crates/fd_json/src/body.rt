@@ -75,19 +75,8 @@ fn body_in(alloc: Global, value: Value) -> Result<RawBody, BodyFault>
     Ok(RawBody { series })
 }
 
-/// Reads a write body, a JSON object (RFC 8259): `series` is a list of objects with `labels`, an
-/// object whose `labels` lists objects with the texts `name` and `value`, and `samples`, a list of
-/// objects with the text `rawProfile` or `raw_profile` in base64 (RFC 4648, section 4). A member
-/// that is missing or null is empty, of a repeated one the last counts, and others are ignored.
-pub fn read_body(alloc: Global, bytes: &[u8]) -> Result<RawBody, BodyFault>
-    ensures ok { IfOk result (λ b. body_of bytes.now ≡ Ok b) }
-    ensures err { IfErr result (λ e. e ≢ BodyFault.NoMemory → body_of bytes.now ≡ Err e) }
-{
-    body_in(alloc, json_of(alloc, bytes)?)
-}
-
 /// The JSON value that these bytes spell, behind which they are let go.
-fn json_of_sent(alloc: Global, bytes: Bytes) -> Result<Value, BodyFault>
+fn json_of_owned(alloc: Global, bytes: Bytes) -> Result<Value, BodyFault>
     ensures ok { IfOk result (λ v. json_spec bytes ≡ Some (view v)) }
     ensures err { IfErr result (λ e. (e ≢ BodyFault.NoMemory)
         → (e ≡ BodyFault.NotJson) × (json_spec bytes ≡ None)) }
@@ -95,11 +84,16 @@ fn json_of_sent(alloc: Global, bytes: Bytes) -> Result<Value, BodyFault>
     json_of(alloc, bytes.as_slice())
 }
 
-/// Reads a write body as `read_body` does. The body is let go before its profiles are decoded, so
-/// that no more than its bytes and its texts, or its texts and its profiles, stand in memory at once.
-pub fn read_sent(alloc: Global, bytes: Bytes) -> Result<RawBody, BodyFault>
+/// Reads a write body, a JSON object (RFC 8259): `series` is a list of objects with `labels`, an
+/// object whose `labels` lists objects with the texts `name` and `value`, and `samples`, a list of
+/// objects with the text `rawProfile` or `raw_profile` in base64 (RFC 4648, section 4). A member
+/// that is missing or null is empty, of a repeated one the last counts, and others are ignored.
+///
+/// The bytes are let go before the profiles are decoded, so that no more than the bytes and their
+/// texts, or the texts and their profiles, stand in memory at once.
+pub fn read_body(alloc: Global, bytes: Bytes) -> Result<RawBody, BodyFault>
     ensures ok { IfOk result (λ b. body_of bytes ≡ Ok b) }
     ensures err { IfErr result (λ e. e ≢ BodyFault.NoMemory → body_of bytes ≡ Err e) }
 {
-    body_in(alloc, json_of_sent(alloc, bytes)?)
+    body_in(alloc, json_of_owned(alloc, bytes)?)
 }

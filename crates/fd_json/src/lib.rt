@@ -11,7 +11,7 @@ mod tests;
 mod texts;
 mod writes;
 
-pub use body::{read_body, read_sent};
+pub use body::read_body;
 pub use fault::BodyFault;
 pub use refusal::{Fault, Parameter, fault_text};
 pub use shape::base64_law;

@@ -262,7 +262,7 @@ fn refusals_name_the_error_and_its_fields(rt: HostRuntime) -> Result<(), Fail> {
 #[test]
 fn a_body_is_read_whole(rt: HostRuntime) -> Result<(), Fail> {
     let alloc = rt.alloc();
-    let body = read_body(alloc, BODY.as_bytes())?;
+    let body = read_body(alloc, Bytes::from_slice(alloc, BODY.as_bytes())?)?;
     assert_eq!(rt; body.series.len(), 1);
     let series = body.series.get(0).ok_or("series")?;
     assert_eq!(rt; series.labels.len(), 2);
@@ -283,7 +283,7 @@ fn a_body_is_read_whole(rt: HostRuntime) -> Result<(), Fail> {
 // The counts of the series and of the first one's labels and profiles, and the length of its
 // first profile.
 fn counts(alloc: Global, text: &str) -> Result<[usize; 4], BodyFault> {
-    let body = read_body(alloc, text.as_bytes())?;
+    let body = read_body(alloc, Bytes::from_slice(alloc, text.as_bytes())?)?;
     let Some(series) = body.series.get(0) else {
         return Ok([0, 0, 0, 0]);
     };

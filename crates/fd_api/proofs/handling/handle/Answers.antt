@@ -1,4 +1,4 @@
 use Rattle.fd_api.proofs.handling.handle.Goals as goal
 
 pub returns-clause-handles : goal.returns-clause-handles
-returns-clause-handles g c = c.carry_out.ensures.handles c.args.request.now c.decide.ensures
+returns-clause-handles g c = c.carry_out.ensures.handles c.args.request c.decide.ensures

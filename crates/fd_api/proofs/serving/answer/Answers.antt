@@ -5,8 +5,8 @@ returns-clause-served g c =
     let sent = c.send-put.ensures.sent in (
       sent.0,
       record {
-        reply = c.handle_moved-reply.result.reply;
-        handled = c.handle_moved-reply.ensures.handles;
+        reply = c.handle-reply.result.reply;
+        handled = c.handle-reply.ensures.handles;
         sent = rw (← c.closes-close.ensures) sent.1;
       },
       sent.2,
