@@ -8,47 +8,11 @@ use Rattle.fd_http.specs.declared.send.Response.{Response}
 use Rattle.fd_http.specs.declared.send.Response.TheVariants as response
 use Rattle.fd_http.specs.Replies.{reply_bytes}
 use Rattle.fd_json.specs.declared.refusal.Fault.{Fault}
-use Rattle.fd_json.specs.declared.refusal.Fault.TheVariants.{NoRoute, BadMethod, Encoded, NotJson, BadShape, BadBase64, BadLabelName, LongValue, RepeatedLabel, NoName, Compressed, Wire, StringZero, StringIndex, ValueCount, UnknownLocation, UnknownMapping, UnknownFunction, RepeatedId, NotUtf8, TooDeep, LongText, LargeBatch, NoQuery, BadType, BadMatcher, BadTime, BadAfter, NotDrawn, Spent, DiskFault, BadHead, NoLength, TooLarge}
+use Rattle.fd_json.specs.declared.refusal.Fault.TheVariants.{BadMethod}
 use Rattle.fd_json.specs.Answers.{answer_json, drawn_json, stand_json}
-use Rattle.fd_json.specs.Faults.{fault_json}
+use Rattle.fd_json.specs.Faults.{fault_json, status_of}
 
--- the status of the reply to a fault
-abbrev pub status_of : Fault → ℕ
-status_of NoRoute = 404
-status_of BadMethod = 405
-status_of Encoded = 422
-status_of NotJson = 400
-status_of BadShape = 400
-status_of (BadBase64 series sample) = 400
-status_of (BadLabelName series label) = 422
-status_of (LongValue series label) = 422
-status_of (RepeatedLabel series label) = 422
-status_of (NoName series) = 422
-status_of (Compressed series sample) = 422
-status_of (Wire series sample at) = 422
-status_of (StringZero series sample) = 422
-status_of (StringIndex series sample) = 422
-status_of (ValueCount series sample) = 422
-status_of (UnknownLocation series sample) = 422
-status_of (UnknownMapping series sample) = 422
-status_of (UnknownFunction series sample) = 422
-status_of (RepeatedId series sample) = 422
-status_of (NotUtf8 series sample) = 422
-status_of (TooDeep series sample) = 422
-status_of (LongText series sample) = 422
-status_of (LargeBatch series sample) = 422
-status_of NoQuery = 400
-status_of BadType = 400
-status_of (BadMatcher at) = 400
-status_of (BadTime parameter) = 400
-status_of BadAfter = 400
-status_of (NotDrawn drawn) = 409
-status_of (Spent drawn) = 503
-status_of DiskFault = 503
-status_of BadHead = 400
-status_of NoLength = 411
-status_of TooLarge = 413
-
+-- the body of the reply to a fault
 abbrev pub fault_body : Fault → List ℕ
 fault_body f = compact_text (fault_json f)
 

@@ -1,9 +1,9 @@
-ghost use Rattle.std.specs.Prelude.{◌≡◌, ◌≢◌, ◌⊎◌, false, IfOk, IsTrue, MatchResult};
+ghost use Rattle.std.specs.Prelude.{◌≡◌, ◌≢◌, false, IfOk, MatchResult};
 ghost use Rattle.fd_http.specs.declared.request.Request.{Request};
 ghost use Rattle.fd_api.specs.Asks.{Asks};
 ghost use Rattle.fd_lists.specs.Counts.{Rose};
-ghost use Rattle.fd_http.specs.Replies.{CanBeSent, is_made_status};
-ghost use Rattle.fd_api.specs.Replies.{IsReply, done, refusal, not_allowed, short, status_of};
+ghost use Rattle.fd_http.specs.Replies.{CanBeSent};
+ghost use Rattle.fd_api.specs.Replies.{IsReply, done, refusal, not_allowed, short};
 ghost use Rattle.fd_api.specs.Handles.{Does, Handles};
 
 use crate::decide::decide;
@@ -46,37 +46,13 @@ fn done(body: Result<Bytes, NoMemory>) -> Response
     }
 }
 
-/// The status of the reply to a fault.
-fn status_of(fault: &Fault) -> u16
-    ensures status { result ≡ status_of fault.now }
-    ensures known { (status_of fault.now ≡ 405) ⊎ IsTrue (is_made_status result) }
-{
-    match fault {
-        Fault::NoRoute => 404,
-        Fault::BadMethod => 405,
-        Fault::NotJson
-        | Fault::BadShape
-        | Fault::BadBase64 { .. }
-        | Fault::NoQuery
-        | Fault::BadType
-        | Fault::BadMatcher { .. }
-        | Fault::BadTime { .. }
-        | Fault::BadAfter
-        | Fault::BadHead => 400,
-        Fault::NotDrawn { .. } => 409,
-        Fault::NoLength => 411,
-        Fault::TooLarge => 413,
-        Fault::Spent { .. } | Fault::DiskFault => 503,
-        _ => 422,
-    }
-}
-
 /// The reply to a fault, or the one to want of memory. A wrong method has a reply of its own.
+#[tactic(auto, using(crate::proofs::Statuses::made_status))]
 pub(crate) fn refuse(alloc: Global, fault: Fault) -> Response
     ensures reply { IsReply (refusal fault) result }
     ensures sendable { CanBeSent result }
 {
-    let status = status_of(&fault);
+    let status = fault.status();
     match fault_text(alloc, &fault) {
         Ok(body) if status != 405 => Response::Made {
             status,

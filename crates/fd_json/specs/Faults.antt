@@ -1,9 +1,12 @@
--- The JSON of refusals: the name of the error and its fields, all as texts, the keys in byte order.
-use Rattle.std.specs.Prelude.{ℕ, List, codes, decimal}
+-- Refusals: a table of their statuses, names and fields, and their JSON, all fields as texts, the keys in byte order.
+use Rattle.std.specs.Prelude.{ℕ, ◌≡◌, ◌⊎◌, ◌==◌, List, [], ◌∷◌, IsTrue, codes, decimal}
+use Rattle.std.specs.List.{list_any}
 use Rattle.serde_json.specs.Data.{Data, string, object, member, no_members}
 use Rattle.fd_json.specs.Answers.{number_json}
 use Rattle.fd_json.specs.declared.refusal.Fault.{Fault}
 use Rattle.fd_json.specs.declared.refusal.Fault.TheVariants.{NoRoute, BadMethod, Encoded, NotJson, BadShape, BadBase64, BadLabelName, LongValue, RepeatedLabel, NoName, Compressed, Wire, StringZero, StringIndex, ValueCount, UnknownLocation, UnknownMapping, UnknownFunction, RepeatedId, NotUtf8, TooDeep, LongText, LargeBatch, NoQuery, BadType, BadMatcher, BadTime, BadAfter, NotDrawn, Spent, DiskFault, BadHead, NoLength, TooLarge}
+use Rattle.fd_json.specs.declared.refusal.Fields.{Fields}
+use Rattle.fd_json.specs.declared.refusal.Fields.TheVariants as fields
 use Rattle.fd_json.specs.declared.refusal.Parameter.{Parameter}
 use Rattle.fd_json.specs.declared.refusal.Parameter.TheVariants.{Start, End}
 
@@ -29,12 +32,6 @@ placed name series key n =
     object
     (member (codes "error") (string name) (member key (number_json n) (member (codes "series") (number_json series) no_members)))
 
-abbrev pub at_label : List ℕ → ℕ → ℕ → Data
-at_label name series label = placed name series (codes "label") label
-
-abbrev pub in_sample : List ℕ → ℕ → ℕ → Data
-in_sample name series sample = placed name series (codes "sample") sample
-
 -- an error at a byte of the message of a sample
 abbrev pub at_byte : List ℕ → ℕ → ℕ → ℕ → Data
 at_byte name series sample at =
@@ -48,38 +45,69 @@ abbrev pub parameter_name : Parameter → List ℕ
 parameter_name Start = codes "start"
 parameter_name End = codes "end"
 
+-- the object of a refusal
+abbrev pub refusal_json : List ℕ → Fields → Data
+refusal_json name fields.None = bare name
+refusal_json name (fields.Series series) = in_series name series
+refusal_json name (fields.Label series label) = placed name series (codes "label") label
+refusal_json name (fields.Sample series sample) = placed name series (codes "sample") sample
+refusal_json name (fields.Byte series sample at) = at_byte name series sample at
+refusal_json name (fields.At at) = numbered (codes "at") at name
+refusal_json name (fields.Drawn drawn) = numbered (codes "drawn") drawn name
+refusal_json name (fields.Window parameter) = detailed name (codes "parameter") (parameter_name parameter)
+
+-- a row of the table: the status of a refusal's reply, its name and its fields
+pub record Row : Type 0 where
+  pub status : ℕ
+  pub name : List ℕ
+  pub fields : Fields
+
+abbrev pub refused : ℕ → List ℕ → Fields → Row
+refused status name fields = record { status = status; name = name; fields = fields }
+
+-- the table of refusals
+abbrev pub row : Fault → Row
+row NoRoute = refused 404 (codes "NoRoute") fields.None
+row BadMethod = refused 405 (codes "BadMethod") fields.None
+row Encoded = refused 422 (codes "Encoded") fields.None
+row NotJson = refused 400 (codes "NotJson") fields.None
+row BadShape = refused 400 (codes "BadShape") fields.None
+row (BadBase64 series sample) = refused 400 (codes "BadBase64") (fields.Sample series sample)
+row (BadLabelName series label) = refused 422 (codes "BadLabelName") (fields.Label series label)
+row (LongValue series label) = refused 422 (codes "LongValue") (fields.Label series label)
+row (RepeatedLabel series label) = refused 422 (codes "RepeatedLabel") (fields.Label series label)
+row (NoName series) = refused 422 (codes "NoName") (fields.Series series)
+row (Compressed series sample) = refused 422 (codes "Compressed") (fields.Sample series sample)
+row (Wire series sample at) = refused 422 (codes "Wire") (fields.Byte series sample at)
+row (StringZero series sample) = refused 422 (codes "StringZero") (fields.Sample series sample)
+row (StringIndex series sample) = refused 422 (codes "StringIndex") (fields.Sample series sample)
+row (ValueCount series sample) = refused 422 (codes "ValueCount") (fields.Sample series sample)
+row (UnknownLocation series sample) = refused 422 (codes "UnknownLocation") (fields.Sample series sample)
+row (UnknownMapping series sample) = refused 422 (codes "UnknownMapping") (fields.Sample series sample)
+row (UnknownFunction series sample) = refused 422 (codes "UnknownFunction") (fields.Sample series sample)
+row (RepeatedId series sample) = refused 422 (codes "RepeatedId") (fields.Sample series sample)
+row (NotUtf8 series sample) = refused 422 (codes "NotUtf8") (fields.Sample series sample)
+row (TooDeep series sample) = refused 422 (codes "TooDeep") (fields.Sample series sample)
+row (LongText series sample) = refused 422 (codes "LongText") (fields.Sample series sample)
+row (LargeBatch series sample) = refused 422 (codes "LargeBatch") (fields.Sample series sample)
+row NoQuery = refused 400 (codes "NoQuery") fields.None
+row BadType = refused 400 (codes "BadType") fields.None
+row (BadMatcher at) = refused 400 (codes "BadMatcher") (fields.At at)
+row (BadTime parameter) = refused 400 (codes "BadTime") (fields.Window parameter)
+row BadAfter = refused 400 (codes "BadAfter") fields.None
+row (NotDrawn drawn) = refused 409 (codes "NotDrawn") (fields.Drawn drawn)
+row (Spent drawn) = refused 503 (codes "Spent") (fields.Drawn drawn)
+row DiskFault = refused 503 (codes "DiskFault") fields.None
+row BadHead = refused 400 (codes "BadHead") fields.None
+row NoLength = refused 411 (codes "NoLength") fields.None
+row TooLarge = refused 413 (codes "TooLarge") fields.None
+
 abbrev pub fault_json : Fault → Data
-fault_json NoRoute = bare (codes "NoRoute")
-fault_json BadMethod = bare (codes "BadMethod")
-fault_json Encoded = bare (codes "Encoded")
-fault_json NotJson = bare (codes "NotJson")
-fault_json BadShape = bare (codes "BadShape")
-fault_json (BadBase64 series sample) = in_sample (codes "BadBase64") series sample
-fault_json (BadLabelName series label) = at_label (codes "BadLabelName") series label
-fault_json (LongValue series label) = at_label (codes "LongValue") series label
-fault_json (RepeatedLabel series label) = at_label (codes "RepeatedLabel") series label
-fault_json (NoName series) = in_series (codes "NoName") series
-fault_json (Compressed series sample) = in_sample (codes "Compressed") series sample
-fault_json (Wire series sample at) = at_byte (codes "Wire") series sample at
-fault_json (StringZero series sample) = in_sample (codes "StringZero") series sample
-fault_json (StringIndex series sample) = in_sample (codes "StringIndex") series sample
-fault_json (ValueCount series sample) = in_sample (codes "ValueCount") series sample
-fault_json (UnknownLocation series sample) = in_sample (codes "UnknownLocation") series sample
-fault_json (UnknownMapping series sample) = in_sample (codes "UnknownMapping") series sample
-fault_json (UnknownFunction series sample) = in_sample (codes "UnknownFunction") series sample
-fault_json (RepeatedId series sample) = in_sample (codes "RepeatedId") series sample
-fault_json (NotUtf8 series sample) = in_sample (codes "NotUtf8") series sample
-fault_json (TooDeep series sample) = in_sample (codes "TooDeep") series sample
-fault_json (LongText series sample) = in_sample (codes "LongText") series sample
-fault_json (LargeBatch series sample) = in_sample (codes "LargeBatch") series sample
-fault_json NoQuery = bare (codes "NoQuery")
-fault_json BadType = bare (codes "BadType")
-fault_json (BadMatcher at) = numbered (codes "at") at (codes "BadMatcher")
-fault_json (BadTime parameter) = detailed (codes "BadTime") (codes "parameter") (parameter_name parameter)
-fault_json BadAfter = bare (codes "BadAfter")
-fault_json (NotDrawn drawn) = numbered (codes "drawn") drawn (codes "NotDrawn")
-fault_json (Spent drawn) = numbered (codes "drawn") drawn (codes "Spent")
-fault_json DiskFault = bare (codes "DiskFault")
-fault_json BadHead = bare (codes "BadHead")
-fault_json NoLength = bare (codes "NoLength")
-fault_json TooLarge = bare (codes "TooLarge")
+fault_json fault = refusal_json (row fault).name (row fault).fields
+
+abbrev pub status_of : Fault → ℕ
+status_of fault = (row fault).status
+
+-- the statuses of refusals; the reply of status 405 names the method too
+abbrev pub IsRefusalStatus : ℕ → Type 0
+IsRefusalStatus status = (status ≡ 405) ⊎ IsTrue (list_any (λ s. s == status) (400 ∷ 404 ∷ 409 ∷ 411 ∷ 413 ∷ 422 ∷ 503 ∷ []))

@@ -5,6 +5,7 @@ mod answers;
 mod body;
 mod fault;
 mod refusal;
+mod refusal_text;
 mod shape;
 #[cfg(test)]
 mod tests;
@@ -13,6 +14,7 @@ mod writes;
 
 pub use body::read_body;
 pub use fault::BodyFault;
-pub use refusal::{Fault, Parameter, fault_text};
+pub use refusal::{Fault, Parameter};
+pub use refusal_text::fault_text;
 pub use shape::base64_law;
 pub use texts::{answer_text, number_text, stand_text};

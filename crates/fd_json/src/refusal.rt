@@ -1,14 +1,5 @@
-ghost use Rattle.std.specs.Prelude.{◌≡◌, IfOk, OnOk};
-ghost use Rattle.serde_json.specs.Written.{compact_text};
-ghost use Rattle.fd_json.specs.Faults.{bare as bare_json, numbered as numbered_json, detailed as detailed_json, in_series as in_series_json, placed as placed_json, at_label as at_label_json, in_sample as in_sample_json, at_byte as at_byte_json, parameter_name, fault_json};
-ghost use Rattle.fd_json.specs.Added.{Adds, tokens_of};
-
-use crate::texts::text_of;
-use crate::writes::{WritesJson, begin_object, end_object, member, text_member};
-use fd_kinds::{Bytes, NoMemory};
-use itoa::Buffer;
-use json::Writer;
-use std::alloc::Global;
+ghost use Rattle.std.specs.Prelude.{◌≡◌};
+ghost use Rattle.fd_json.specs.Faults.{row, status_of, IsRefusalStatus};
 
 /// The end of a window of time.
 #[derive(Debug, Clone, Copy, PartialEq, Eq)]
@@ -91,161 +82,101 @@ pub enum Fault {
     TooLarge,
 }
 
-fn bare(out: &mut Writer, name: &str) -> Result<(), NoMemory>
-    ensures { OnOk result (Adds out.old out.new (tokens_of (bare_json name.now))) }
-{
-    begin_object(out)?;
-    text_member(out, "error", name)?;
-    end_object(out)
+/// The fields of a refusal's reply, beside its name.
+#[derive(Clone, Copy)]
+pub(crate) enum Fields {
+    None,
+    /// The place of a series.
+    Series(u64),
+    /// The places of a series and of a label in it.
+    Label(u64, u64),
+    /// The places of a series and of a sample in it.
+    Sample(u64, u64),
+    /// The places of a series and of a sample in it, and a byte of its profile.
+    Byte(u64, u64, u64),
+    /// A byte of a text.
+    At(u64),
+    /// The last number that the store gave out.
+    Drawn(u64),
+    /// An end of a window of time.
+    Window(Parameter),
 }
 
-fn numbered(out: &mut Writer, key: &str, n: u64, name: &str) -> Result<(), NoMemory>
-    ensures { OnOk result (Adds out.old out.new (tokens_of (numbered_json key.now n name.now))) }
+/// The table of refusals: the name, the status (RFC 9110, section 15) and the fields of each.
+pub(crate) fn row(fault: &Fault) -> (&'static str, u16, Fields)
+    ensures name { result.0.now ≡ (row fault.now).name }
+    ensures status { result.1 ≡ (row fault.now).status }
+    ensures fields { result.2 ≡ (row fault.now).fields }
+    ensures known { IsRefusalStatus result.1 }
 {
-    begin_object(out)?;
-    member(out, key, &n)?;
-    text_member(out, "error", name)?;
-    end_object(out)
-}
-
-fn detailed(out: &mut Writer, name: &str, key: &str, text: &str) -> Result<(), NoMemory>
-    ensures { OnOk result (Adds out.old out.new
-        (tokens_of (detailed_json name.now key.now text.now))) }
-{
-    begin_object(out)?;
-    text_member(out, "error", name)?;
-    text_member(out, key, text)?;
-    end_object(out)
-}
-
-fn in_series(out: &mut Writer, name: &str, series: u64) -> Result<(), NoMemory>
-    ensures { OnOk result (Adds out.old out.new (tokens_of (in_series_json name.now series))) }
-{
-    let mut buffer = Buffer::new();
-    detailed(out, name, "series", buffer.format(series))
-}
-
-fn placed(out: &mut Writer, name: &str, series: u64, key: &str, n: u64) -> Result<(), NoMemory>
-    ensures { OnOk result (Adds out.old out.new
-        (tokens_of (placed_json name.now series key.now n))) }
-{
-    begin_object(out)?;
-    text_member(out, "error", name)?;
-    member(out, key, &n)?;
-    member(out, "series", &series)?;
-    end_object(out)
-}
-
-fn at_label(out: &mut Writer, name: &str, series: u64, label: u64) -> Result<(), NoMemory>
-    ensures { OnOk result (Adds out.old out.new (tokens_of (at_label_json name.now series label))) }
-{
-    placed(out, name, series, "label", label)
-}
-
-fn in_sample(out: &mut Writer, name: &str, series: u64, sample: u64) -> Result<(), NoMemory>
-    ensures { OnOk result (Adds out.old out.new
-        (tokens_of (in_sample_json name.now series sample))) }
-{
-    placed(out, name, series, "sample", sample)
-}
-
-fn at_byte(out: &mut Writer, name: &str, series: u64, sample: u64, at: u64) -> Result<(), NoMemory>
-    ensures { OnOk result (Adds out.old out.new
-        (tokens_of (at_byte_json name.now series sample at))) }
-{
-    begin_object(out)?;
-    member(out, "at", &at)?;
-    text_member(out, "error", name)?;
-    member(out, "sample", &sample)?;
-    member(out, "series", &series)?;
-    end_object(out)
-}
-
-fn name_of(parameter: &Parameter) -> &'static str
-    ensures { result.now ≡ parameter_name parameter.now }
-{
-    match parameter {
-        Parameter::Start => "start",
-        Parameter::End => "end",
+    match *fault {
+        Fault::NoRoute => ("NoRoute", 404, Fields::None),
+        Fault::BadMethod => ("BadMethod", 405, Fields::None),
+        Fault::Encoded => ("Encoded", 422, Fields::None),
+        Fault::NotJson => ("NotJson", 400, Fields::None),
+        Fault::BadShape => ("BadShape", 400, Fields::None),
+        Fault::BadBase64 { series, sample } => ("BadBase64", 400, Fields::Sample(series, sample)),
+        Fault::BadLabelName { series, label } => (
+            "BadLabelName",
+            422,
+            Fields::Label(series, label),
+        ),
+        Fault::LongValue { series, label } => ("LongValue", 422, Fields::Label(series, label)),
+        Fault::RepeatedLabel { series, label } => (
+            "RepeatedLabel",
+            422,
+            Fields::Label(series, label),
+        ),
+        Fault::NoName { series } => ("NoName", 422, Fields::Series(series)),
+        Fault::Compressed { series, sample } => ("Compressed", 422, Fields::Sample(series, sample)),
+        Fault::Wire { series, sample, at } => ("Wire", 422, Fields::Byte(series, sample, at)),
+        Fault::StringZero { series, sample } => ("StringZero", 422, Fields::Sample(series, sample)),
+        Fault::StringIndex { series, sample } => (
+            "StringIndex",
+            422,
+            Fields::Sample(series, sample),
+        ),
+        Fault::ValueCount { series, sample } => ("ValueCount", 422, Fields::Sample(series, sample)),
+        Fault::UnknownLocation { series, sample } => (
+            "UnknownLocation",
+            422,
+            Fields::Sample(series, sample),
+        ),
+        Fault::UnknownMapping { series, sample } => (
+            "UnknownMapping",
+            422,
+            Fields::Sample(series, sample),
+        ),
+        Fault::UnknownFunction { series, sample } => (
+            "UnknownFunction",
+            422,
+            Fields::Sample(series, sample),
+        ),
+        Fault::RepeatedId { series, sample } => ("RepeatedId", 422, Fields::Sample(series, sample)),
+        Fault::NotUtf8 { series, sample } => ("NotUtf8", 422, Fields::Sample(series, sample)),
+        Fault::TooDeep { series, sample } => ("TooDeep", 422, Fields::Sample(series, sample)),
+        Fault::LongText { series, sample } => ("LongText", 422, Fields::Sample(series, sample)),
+        Fault::LargeBatch { series, sample } => ("LargeBatch", 422, Fields::Sample(series, sample)),
+        Fault::NoQuery => ("NoQuery", 400, Fields::None),
+        Fault::BadType => ("BadType", 400, Fields::None),
+        Fault::BadMatcher { at } => ("BadMatcher", 400, Fields::At(at)),
+        Fault::BadTime { parameter } => ("BadTime", 400, Fields::Window(parameter)),
+        Fault::BadAfter => ("BadAfter", 400, Fields::None),
+        Fault::NotDrawn { drawn } => ("NotDrawn", 409, Fields::Drawn(drawn)),
+        Fault::Spent { drawn } => ("Spent", 503, Fields::Drawn(drawn)),
+        Fault::DiskFault => ("DiskFault", 503, Fields::None),
+        Fault::BadHead => ("BadHead", 400, Fields::None),
+        Fault::NoLength => ("NoLength", 411, Fields::None),
+        Fault::TooLarge => ("TooLarge", 413, Fields::None),
     }
 }
 
-impl WritesJson for Fault {
-    ghost json = { fault_json };
-
-    fn write(&self, out: &mut Writer) -> Result<(), NoMemory> {
-        match self {
-            Fault::NoRoute => bare(out, "NoRoute"),
-            Fault::BadMethod => bare(out, "BadMethod"),
-            Fault::Encoded => bare(out, "Encoded"),
-            Fault::NotJson => bare(out, "NotJson"),
-            Fault::BadShape => bare(out, "BadShape"),
-            Fault::BadBase64 { series, sample } => in_sample(out, "BadBase64", *series, *sample),
-            Fault::BadLabelName { series, label } => at_label(out, "BadLabelName", *series, *label),
-            Fault::LongValue { series, label } => at_label(out, "LongValue", *series, *label),
-            Fault::RepeatedLabel { series, label } => at_label(
-                out,
-                "RepeatedLabel",
-                *series,
-                *label,
-            ),
-            Fault::NoName { series } => in_series(out, "NoName", *series),
-            Fault::Compressed { series, sample } => in_sample(out, "Compressed", *series, *sample),
-            Fault::Wire { series, sample, at } => at_byte(out, "Wire", *series, *sample, *at),
-            Fault::StringZero { series, sample } => in_sample(out, "StringZero", *series, *sample),
-            Fault::StringIndex { series, sample } => in_sample(
-                out,
-                "StringIndex",
-                *series,
-                *sample,
-            ),
-            Fault::ValueCount { series, sample } => in_sample(out, "ValueCount", *series, *sample),
-            Fault::UnknownLocation { series, sample } => in_sample(
-                out,
-                "UnknownLocation",
-                *series,
-                *sample,
-            ),
-            Fault::UnknownMapping { series, sample } => in_sample(
-                out,
-                "UnknownMapping",
-                *series,
-                *sample,
-            ),
-            Fault::UnknownFunction { series, sample } => in_sample(
-                out,
-                "UnknownFunction",
-                *series,
-                *sample,
-            ),
-            Fault::RepeatedId { series, sample } => in_sample(out, "RepeatedId", *series, *sample),
-            Fault::NotUtf8 { series, sample } => in_sample(out, "NotUtf8", *series, *sample),
-            Fault::TooDeep { series, sample } => in_sample(out, "TooDeep", *series, *sample),
-            Fault::LongText { series, sample } => in_sample(out, "LongText", *series, *sample),
-            Fault::LargeBatch { series, sample } => in_sample(out, "LargeBatch", *series, *sample),
-            Fault::NoQuery => bare(out, "NoQuery"),
-            Fault::BadType => bare(out, "BadType"),
-            Fault::BadMatcher { at } => numbered(out, "at", *at, "BadMatcher"),
-            Fault::BadTime { parameter } => detailed(
-                out,
-                "BadTime",
-                "parameter",
-                name_of(parameter),
-            ),
-            Fault::BadAfter => bare(out, "BadAfter"),
-            Fault::NotDrawn { drawn } => numbered(out, "drawn", *drawn, "NotDrawn"),
-            Fault::Spent { drawn } => numbered(out, "drawn", *drawn, "Spent"),
-            Fault::DiskFault => bare(out, "DiskFault"),
-            Fault::BadHead => bare(out, "BadHead"),
-            Fault::NoLength => bare(out, "NoLength"),
-            Fault::TooLarge => bare(out, "TooLarge"),
-        }
+impl Fault {
+    /// The status of the reply to a refusal.
+    pub fn status(&self) -> u16
+        ensures status { result ≡ status_of self.now }
+        ensures known { IsRefusalStatus result }
+    {
+        row(self).1
     }
-}
-
-/// The body of a refusal, a compact JSON text: its name and its fields, all as texts.
-pub fn fault_text(alloc: Global, fault: &Fault) -> Result<Bytes, NoMemory>
-    ensures { IfOk result (λ text. text ≡ compact_text (fault_json fault.now)) }
-{
-    text_of(alloc, fault)
 }

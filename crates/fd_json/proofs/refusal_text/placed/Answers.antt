@@ -1,12 +1,11 @@
 use Rattle.std.proofs.lemmas.Result.{on_ok_weaker}
 use Rattle.fd_json.proofs.Writing.{adds_then}
-use Rattle.fd_json.proofs.refusal.at_byte.Goals as goal
+use Rattle.fd_json.proofs.refusal_text.placed.Goals as goal
 
 pub returns : goal.returns
 returns c =
     on_ok_weaker c.end_object.result
     (λ last. adds_then _ _ _ _ _ c.in_ok-begin_object.ensures
-    (adds_then _ _ _ _ _ c.in_ok-member.ensures
     (adds_then _ _ _ _ _ c.in_ok-text_member.ensures
-    (adds_then _ _ _ _ _ c.in_ok-member-2.ensures
-    (adds_then _ _ _ _ _ c.in_ok-member-3.ensures last))))) c.end_object.ensures
+    (adds_then _ _ _ _ _ c.in_ok-member.ensures
+    (adds_then _ _ _ _ _ c.in_ok-member-2.ensures last)))) c.end_object.ensures
