@@ -16,12 +16,12 @@ use Rattle.fd_kinds.specs.declared.store.WriteRefusal.{WriteRefusal}
 use Rattle.fd_kinds.specs.declared.store.ReadRefusal.{ReadRefusal}
 use Rattle.fd_http.specs.declared.request.Request.{Request}
 use Rattle.fd_http.specs.declared.request.Arrived.TheVariants as arrived
-use Rattle.fd_http.specs.Arrives.{Arrives}
-use Rattle.fd_http.specs.Leads.{HasRead, HasSplit, leads_none, has_read_more, has_read_close, has_read_end, has_read_refused, has_read_limit}
+use Rattle.fd_http.specs.Arrivals.{Arrives}
+use Rattle.fd_http.specs.Prefixes.{HasRead, HasSplit, leads_none, has_read_more, has_read_close, has_read_end, has_read_refused, has_read_limit}
 use Rattle.fd_http.specs.Replies.{AppendsFront}
-use Rattle.fd_http.specs.Rests.{Holds, refused, End, closed, limit, refused_as}
-use Rattle.fd_http.specs.Rests as ends
-use Rattle.fd_http.specs.Told.{IfTold}
+use Rattle.fd_http.specs.Inputs.{Holds, refused, End, closed, limit, refused_as}
+use Rattle.fd_http.specs.Inputs as ends
+use Rattle.fd_http.specs.Remainders.{IfTold}
 use Rattle.fd_http.specs.declared.request.RequestFault.{RequestFault}
 use Rattle.fd_http.specs.declared.request.RequestFault.TheVariants as head
 use Rattle.fd_json.specs.declared.refusal.Fault.{Fault}
@@ -30,12 +30,12 @@ use Rattle.fd_device.specs.declared.sink.Put.{Put}
 use Rattle.fd_device.specs.declared.sink.Put.TheVariants.{Done, Failed}
 use Rattle.fd_device.specs.Streams.{PutCause}
 use Rattle.fd_api.specs.declared.note.Note.{Note}
-use Rattle.fd_api.specs.declared.serving.EndKind.{EndKind}
-use Rattle.fd_api.specs.declared.serving.EndKind.TheVariants as kind
+use Rattle.fd_api.specs.declared.sessions.EndKind.{EndKind}
+use Rattle.fd_api.specs.declared.sessions.EndKind.TheVariants as kind
 use Rattle.fd_api.specs.Replies.{IsSent, refusal}
 use Rattle.fd_api.specs.Sessions.{MOST_REQUESTS, Runs, Serves, Served, Ends, SinkCause, is_last, is_faulted, Begins, IsSplit, IsBegun, IsDrained, AppendsThen}
 use Rattle.fd_api.specs.Turns.{PutsReply, Turned, Unturned, NoRequest, EndsAt, Silent, Turns, after_put}
-use Rattle.fd_api.proofs.Told.{Appends-Keeps}
+use Rattle.fd_api.proofs.SinkLemmas.{Appends-Keeps}
 
 second_nil : (xs ys : List ℕ) → xs ++ ys ≡ [] → ys ≡ []
 second_nil [] ys e = e

@@ -3,9 +3,9 @@ use Rattle.std.specs.Prelude.{◌≡◌, ℕ, Bool, false, List, ◌⊎◌}
 use Rattle.serde_json.specs.Written.{compact_text}
 use Rattle.fd_kinds.specs.declared.query.Answer.{Answer}
 use Rattle.fd_kinds.specs.declared.stand.Stand.{Stand}
-use Rattle.fd_http.specs.declared.send.Method.{Method}
-use Rattle.fd_http.specs.declared.send.Response.{Response}
-use Rattle.fd_http.specs.declared.send.Response.TheVariants as response
+use Rattle.fd_http.specs.declared.replies.Method.{Method}
+use Rattle.fd_http.specs.declared.replies.Response.{Response}
+use Rattle.fd_http.specs.declared.replies.Response.TheVariants as response
 use Rattle.fd_http.specs.Replies.{reply_bytes}
 use Rattle.fd_json.specs.declared.refusal.Fault.{Fault}
 use Rattle.fd_json.specs.declared.refusal.Fault.TheVariants.{BadMethod}

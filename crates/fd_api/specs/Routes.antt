@@ -1,8 +1,8 @@
 -- The resources, their paths, and the one method of each.
 use Rattle.std.specs.Prelude.{ℕ, Bool, ◌&&◌, ◌==◌, List, [], Option, Some, None, codes, bytes_eq, if◌then◌else◌}
 use Rattle.std.specs.List.{before_first, after_first}
-use Rattle.fd_http.specs.declared.send.Method.{Method}
-use Rattle.fd_http.specs.declared.send.Method.TheVariants.{Get, Post}
+use Rattle.fd_http.specs.declared.replies.Method.{Method}
+use Rattle.fd_http.specs.declared.replies.Method.TheVariants.{Get, Post}
 use Rattle.fd_kinds.specs.Names.{is_label_name}
 use Rattle.fd_api.specs.declared.route.Route.{Route}
 use Rattle.fd_api.specs.declared.route.Route.TheVariants as route

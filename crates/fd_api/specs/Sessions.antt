@@ -10,19 +10,19 @@ use Rattle.fd_kinds.specs.declared.store.WriteRefusal.{WriteRefusal}
 use Rattle.fd_kinds.specs.declared.store.ReadRefusal.{ReadRefusal}
 use Rattle.fd_http.specs.declared.request.Request.{Request}
 use Rattle.fd_http.specs.declared.request.RequestFault.TheVariants as head
-use Rattle.fd_http.specs.declared.send.Response.{Response}
-use Rattle.fd_http.specs.declared.send.Response.TheVariants as response
-use Rattle.fd_http.specs.Rests.{End, ended, closed, limit, refused_as, Splits}
-use Rattle.fd_http.specs.Leads.{Leads}
-use Rattle.fd_http.specs.Told.{IfTold}
+use Rattle.fd_http.specs.declared.replies.Response.{Response}
+use Rattle.fd_http.specs.declared.replies.Response.TheVariants as response
+use Rattle.fd_http.specs.Inputs.{End, ended, closed, limit, refused_as, Splits}
+use Rattle.fd_http.specs.Prefixes.{Leads}
+use Rattle.fd_http.specs.Remainders.{IfTold}
 use Rattle.fd_http.specs.Replies.{AppendsFront, reply_bytes}
 use Rattle.fd_json.specs.declared.refusal.Fault.{Fault}
 use Rattle.fd_json.specs.declared.refusal.Fault.TheVariants as fault
 use Rattle.fd_api.specs.declared.note.Note.{Note}
 use Rattle.fd_api.specs.declared.note.Note.TheVariants.{Read, Wrote, Stood, NotDrawn, Spent, Refused, Faulted, Short}
-use Rattle.fd_api.specs.declared.serving.EndKind.{EndKind}
-use Rattle.fd_api.specs.declared.serving.EndKind.TheVariants as kind
-use Rattle.fd_api.specs.Handles.{Handles}
+use Rattle.fd_api.specs.declared.sessions.EndKind.{EndKind}
+use Rattle.fd_api.specs.declared.sessions.EndKind.TheVariants as kind
+use Rattle.fd_api.specs.Effects.{Handles}
 use Rattle.fd_api.specs.Replies.{IsSent, refusal}
 
 -- how many requests a session takes

@@ -12,8 +12,8 @@ use Rattle.fd_http.specs.declared.request.Request.{Request}
 use Rattle.fd_http.specs.declared.request.Arrived.TheVariants as arrived
 use Rattle.fd_http.specs.declared.request.RequestFault.{RequestFault}
 use Rattle.fd_http.specs.declared.request.RequestFault.TheVariants as head
-use Rattle.fd_http.specs.declared.send.Response.TheVariants as response
-use Rattle.fd_http.specs.Arrives.{Arrives}
+use Rattle.fd_http.specs.declared.replies.Response.TheVariants as response
+use Rattle.fd_http.specs.Arrivals.{Arrives}
 use Rattle.fd_http.specs.Replies.{AppendsFront, reply_bytes}
 use Rattle.fd_device.specs.declared.sink.Put.{Put}
 use Rattle.fd_device.specs.declared.sink.Put.TheVariants.{Done, Failed}
@@ -21,8 +21,8 @@ use Rattle.fd_device.specs.Streams.{PutCause}
 use Rattle.fd_json.specs.declared.refusal.Fault.{Fault}
 use Rattle.fd_json.specs.declared.refusal.Fault.TheVariants as fault
 use Rattle.fd_api.specs.declared.note.Note.{Note}
-use Rattle.fd_api.specs.declared.serving.EndKind.{EndKind}
-use Rattle.fd_api.specs.declared.serving.EndKind.TheVariants as kind
+use Rattle.fd_api.specs.declared.sessions.EndKind.{EndKind}
+use Rattle.fd_api.specs.declared.sessions.EndKind.TheVariants as kind
 use Rattle.fd_api.specs.Replies.{IsSent, refusal}
 use Rattle.fd_api.specs.Sessions.{Serves, is_faulted}
 

@@ -1,7 +1,7 @@
 pub mod HeaderSteps
 pub mod HeadLemmas
-pub mod RestLemmas
+pub mod InputLemmas
 pub mod ReplyLemmas
-pub mod Unique
+pub mod SplitLemmas
 pub mod FrontSteps
 pub mod SearchLemmas

@@ -3,8 +3,8 @@ use Rattle.std.specs.Prelude.{ℕ, ◌≡◌, ◌<◌, ◌≤◌, List, [], ◌+
 use Rattle.fd_http.specs.declared.request.RequestFault.{RequestFault}
 use Rattle.fd_http.specs.declared.request.RequestFault.TheVariants.{BadHead, NoLength, TooLarge, Cut, ReadFault, NoMemory}
 use Rattle.fd_http.specs.Front.{IsFront}
-use Rattle.fd_http.specs.Rests.{CutInFront, LongFront}
-use Rattle.fd_http.specs.Told.{IfTold}
+use Rattle.fd_http.specs.Inputs.{CutInFront, LongFront}
+use Rattle.fd_http.specs.Remainders.{IfTold}
 
 -- the front that stands in the inbox, and what was read
 abbrev pub Fills : Option (List ℕ) → Option (List ℕ) → List ℕ → List ℕ → Result (Option ℕ) RequestFault → Type 0

@@ -1,10 +1,10 @@
 pub mod Front
 pub mod Headers
 pub mod Heads
-pub mod Rests
-pub mod Told
-pub mod Arrives
-pub mod Leads
+pub mod Inputs
+pub mod Remainders
+pub mod Arrivals
+pub mod Prefixes
 pub mod Intake
 pub mod Search
 pub mod Replies

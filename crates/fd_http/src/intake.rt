@@ -1,5 +1,5 @@
 ghost use Rattle.std.specs.Prelude.{◌≡◌, ◌≤◌, ◌<◌, max, length, take, drop, IfOk, IfSome, IfNone, IsOkAnd};
-ghost use Rattle.fd_http.specs.Arrives.{Arrives, ReadCause};
+ghost use Rattle.fd_http.specs.Arrivals.{Arrives, ReadCause};
 ghost use Rattle.fd_http.specs.Front.{HasNoFront};
 ghost use Rattle.fd_http.specs.Search.{HasSearched};
 ghost use Rattle.fd_http.specs.Intake.{Fills, FrontAt, ReadsBody};

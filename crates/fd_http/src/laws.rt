@@ -1,7 +1,7 @@
 ghost use Rattle.std.specs.Prelude.{◌≡◌, ◌++◌, List, ℕ};
 ghost use Rattle.fd_http.specs.declared.request.Request.{Request};
-ghost use Rattle.fd_http.specs.Rests.{Next, Holds, End, Splits, SplitsWithin};
-ghost use Rattle.fd_http.specs.Leads.{Leads};
+ghost use Rattle.fd_http.specs.Inputs.{Next, Holds, End, Splits, SplitsWithin};
+ghost use Rattle.fd_http.specs.Prefixes.{Leads};
 
 /// What the bytes of an input hold next, and how they split into requests and an end, are functions
 /// of these bytes; and requests with which they begin are the first of their split.

@@ -9,13 +9,13 @@ mod inbox;
 mod intake;
 mod laws;
 mod request;
-mod send;
+mod replies;
 
 pub use inbox::Inbox;
 pub use intake::next_request;
 pub use laws::split_laws;
 pub use request::{Arrived, Request, RequestFault};
-pub use send::{Method, Response, SendFault, reply};
+pub use replies::{Method, Response, SendFault, reply};
 
 #[cfg(test)]
 mod tests;

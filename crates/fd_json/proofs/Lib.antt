@@ -1,4 +1,4 @@
-pub mod Decoding
-pub mod Gathered
-pub mod Parts
-pub mod Writing
+pub mod BodySteps
+pub mod EachSteps
+pub mod TextLemmas
+pub mod TokenSteps

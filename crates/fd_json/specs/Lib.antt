@@ -3,4 +3,4 @@ pub mod Shape
 pub mod Body
 pub mod Answers
 pub mod Faults
-pub mod Added
+pub mod Tokens

@@ -1,8 +1,8 @@
 ghost use Rattle.std.specs.Prelude.{◌≡◌, OnOk};
 ghost use Rattle.fd_json.specs.Answers.{type_json, series_json, point_json, range_json, stack_json, stand_json, sums_json, answer_json};
-ghost use Rattle.fd_json.specs.Added.{Adds, tokens_of};
+ghost use Rattle.fd_json.specs.Tokens.{Adds, tokens_of};
 
-use crate::writes::{WritesJson, begin_object, end_object, member, one_member, two_members};
+use crate::writer::{WritesJson, begin_object, end_object, member, one_member, two_members};
 use fd_kinds::{
     Answer, NoMemory, OneRange, Point, ProfileType, SeriesName, StackSum, StackSums, Stand,
 };

@@ -10,7 +10,7 @@ use serde_json::Value;
 use std::alloc::Global;
 
 // The JSON value that these bytes spell.
-#[tactic(auto, using(crate::proofs::Parts::json_of_text, crate::proofs::Parts::json_of_other))]
+#[tactic(auto, using(crate::proofs::TextLemmas::json_of_text, crate::proofs::TextLemmas::json_of_other))]
 fn json_of(alloc: Global, bytes: &[u8]) -> Result<Value, BodyFault>
     ensures ok { IfOk result (λ v. json_spec bytes.now ≡ Some (view v)) }
     ensures err { IfErr result (λ e. (e ≢ BodyFault.NoMemory)
@@ -29,7 +29,7 @@ fn json_of(alloc: Global, bytes: &[u8]) -> Result<Value, BodyFault>
 }
 
 // The profiles of a series, or the first that is none.
-#[tactic(auto, using(crate::proofs::Decoding::decodes_none, crate::proofs::Decoding::decodes_more, crate::proofs::Decoding::decodes_refused, crate::proofs::Decoding::decodes_all))]
+#[tactic(auto, using(crate::proofs::BodySteps::decodes_none, crate::proofs::BodySteps::decodes_more, crate::proofs::BodySteps::decodes_refused, crate::proofs::BodySteps::decodes_all))]
 fn profiles_of(alloc: Global, series: u64, sent: Items<SentProfile>) -> Result<BytesList, BodyFault>
     ensures ok { IfOk result (λ ps. profiles_from series 0 sent ≡ Ok ps) }
     ensures err { IfErr result (λ e. e ≢ BodyFault.NoMemory → profiles_from series 0 sent ≡ Err e) }
@@ -46,7 +46,7 @@ fn profiles_of(alloc: Global, series: u64, sent: Items<SentProfile>) -> Result<B
     Ok(profiles)
 }
 
-#[tactic(auto, using(crate::proofs::Decoding::collects_none, crate::proofs::Decoding::collects_more, crate::proofs::Decoding::collects_refused, crate::proofs::Decoding::collects_all))]
+#[tactic(auto, using(crate::proofs::BodySteps::collects_none, crate::proofs::BodySteps::collects_more, crate::proofs::BodySteps::collects_refused, crate::proofs::BodySteps::collects_all))]
 fn bodies_of(alloc: Global, sent: Items<SentSeries>) -> Result<RawSeriesList, BodyFault>
     ensures ok { IfOk result (λ ss. series_from 0 sent ≡ Ok ss) }
     ensures err { IfErr result (λ e. e ≢ BodyFault.NoMemory → series_from 0 sent ≡ Err e) }

@@ -10,7 +10,7 @@ mod shape;
 #[cfg(test)]
 mod tests;
 mod texts;
-mod writes;
+mod writer;
 
 pub use body::read_body;
 pub use fault::BodyFault;

@@ -1,11 +1,11 @@
 ghost use Rattle.std.specs.Prelude.{◌≡◌, IfOk, OnOk};
 ghost use Rattle.serde_json.specs.Written.{compact_text};
 ghost use Rattle.fd_json.specs.Faults.{bare as bare_json, numbered as numbered_json, detailed as detailed_json, in_series as in_series_json, placed as placed_json, at_byte as at_byte_json, parameter_name, refusal_json, fault_json};
-ghost use Rattle.fd_json.specs.Added.{Adds, tokens_of};
+ghost use Rattle.fd_json.specs.Tokens.{Adds, tokens_of};
 
 use crate::refusal::{Fault, Fields, Parameter, row};
 use crate::texts::text_of;
-use crate::writes::{WritesJson, begin_object, end_object, member, text_member};
+use crate::writer::{WritesJson, begin_object, end_object, member, text_member};
 use fd_kinds::{Bytes, NoMemory};
 use itoa::Buffer;
 use json::Writer;

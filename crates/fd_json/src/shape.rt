@@ -35,7 +35,7 @@ fn text_of<'v>(value: &'v Value, name: &str) -> Option<&'v str>
 }
 
 // The items of a member, none where it is missing or null.
-#[tactic(auto, using(crate::proofs::Parts::items_steps))]
+#[tactic(auto, using(crate::proofs::TextLemmas::items_steps))]
 fn items_of<'v>(value: &'v Value, name: &str) -> Option<&'v [Value]>
     ensures { option_map (λ s. map view s.now) result
         ≡ items_or_empty (get name.now (view value.now)) }
@@ -50,7 +50,7 @@ fn items_of<'v>(value: &'v Value, name: &str) -> Option<&'v [Value]>
     }
 }
 
-#[tactic(auto, using(crate::proofs::Gathered::gathers_none, crate::proofs::Gathered::gathers_more, crate::proofs::Gathered::gathers_refused, crate::proofs::Gathered::gathers_all))]
+#[tactic(auto, using(crate::proofs::EachSteps::gathers_none, crate::proofs::EachSteps::gathers_more, crate::proofs::EachSteps::gathers_refused, crate::proofs::EachSteps::gathers_all))]
 fn each_of<T: ReadsJson + Drop>(alloc: Global, items: &[Value]) -> Result<Items<T>, Unread>
     ensures ok { IfOk result (λ list. each T.meaning (map view items.now) ≡ Some list) }
     ensures err { result ≡ Err Unread.BadShape → each T.meaning (map view items.now) ≡ None }
@@ -132,7 +132,7 @@ fn profile_text(value: &Value) -> Option<&str>
 
 /// A text stands for the bytes of which it is the base64, with padding and with no bits left over
 /// that are not 0, and for no others. It does nothing: its contract is the law.
-#[tactic(auto, using(crate::proofs::Parts::decoded_iff))]
+#[tactic(auto, using(crate::proofs::TextLemmas::decoded_iff))]
 pub fn base64_law()
     ensures { (s b : List ℕ) → IsBytes s → IsBytes b
         → (decoded_of standard s ≡ Some b) ↔ (s ≡ encode_of standard b) }

@@ -3,13 +3,13 @@ ghost use Rattle.serde_json.specs.Written.{compact_text};
 ghost use Rattle.fd_json.specs.Answers.{answer_json, stand_json, drawn_json};
 
 use crate::answers::{Drawn, write_answer};
-use crate::writes::WritesJson;
+use crate::writer::WritesJson;
 use fd_kinds::{Answer, Bytes, Items, NoMemory, Stand};
 use json::Writer;
 use std::alloc::Global;
 
 /// The compact text of a value.
-#[tactic(auto, using(crate::proofs::Writing::printed))]
+#[tactic(auto, using(crate::proofs::TokenSteps::printed))]
 pub(crate) fn text_of<T: WritesJson>(alloc: Global, value: &T) -> Result<Bytes, NoMemory>
     ensures { IfOk result (λ text. text ≡ compact_text (T.json value.now)) }
 {
@@ -21,7 +21,7 @@ pub(crate) fn text_of<T: WritesJson>(alloc: Global, value: &T) -> Result<Bytes, 
 /// The body of the reply to a query: the compact JSON text, as `serde_json` writes it, of the
 /// answer and the watermark, the number of the last batch that the answer saw. Whole numbers are
 /// texts of their digits.
-#[tactic(auto, using(crate::proofs::Writing::printed))]
+#[tactic(auto, using(crate::proofs::TokenSteps::printed))]
 pub fn answer_text(alloc: Global, answer: &Answer, watermark: u64) -> Result<Bytes, NoMemory>
     ensures { IfOk result (λ text. text ≡ compact_text (answer_json answer.now watermark)) }
 {

@@ -5,8 +5,8 @@ use Rattle.fd_lists.specs.Counts.{Rose}
 use Rattle.fd_kinds.specs.History.{History, Writes, Reads, Stands}
 use Rattle.fd_http.specs.Replies.{AppendsFront}
 use Rattle.fd_api.specs.declared.note.Note.{Note}
-use Rattle.fd_api.specs.declared.serving.EndKind.{EndKind}
-use Rattle.fd_api.specs.declared.serving.EndKind.TheVariants.{Ended, Closed, Limit, Cut, BadHead, NoLength, TooLarge, ReadFault, WriteFault, DiskFault, NoMemory}
+use Rattle.fd_api.specs.declared.sessions.EndKind.{EndKind}
+use Rattle.fd_api.specs.declared.sessions.EndKind.TheVariants.{Ended, Closed, Limit, Cut, BadHead, NoLength, TooLarge, ReadFault, WriteFault, DiskFault, NoMemory}
 use Rattle.fd_api.specs.Sessions.{Ends, SourceCause, SinkCause}
 
 -- the words of a session

@@ -1,6 +1,6 @@
 //! The commands of the program over a store that nobody shares.
 #![tactic(auto)]
 
-mod top;
+mod command;
 
-pub use top::run;
+pub use command::run;

@@ -1,6 +1,6 @@
 pub mod Basics
-pub mod Follows
-pub mod Leads
+pub mod EndLemmas
+pub mod PathLemmas
 pub mod Meetings
 pub mod Numbers
 pub mod Parts

@@ -11,10 +11,10 @@ use Rattle.fd_select.specs.declared.faults.SelectFault.TheVariants.{BadType, Bad
 use Rattle.std.proofs.lemmas.Option.{same_Some}
 use Rattle.fd_select.specs.declared.reader.Reader.{Reader}
 use Rattle.fd_select.specs.declared.reader.Stage.TheVariants.{End}
-use Rattle.fd_select.specs.SelectorTexts.{type_part, braces_part, parts_of, kind_parts, IsBraced, AreMatchers, IsSelectorText, IsLongestBeginning, HasNoMatchers, Refuses}
+use Rattle.fd_select.specs.SelectorTexts.{type_part, braces_part, parts_of, kind_parts, IsBraced, AreMatchers, IsSelectorText, IsLongestBeginning, HasNoMatchers, HasSelectFault}
 use Rattle.fd_select.specs.Braces.{IsStop}
-use Rattle.fd_select.specs.Reads.{ReadsKind, Meets}
-use Rattle.fd_select.proofs.Leads.{reader, braced_leads}
+use Rattle.fd_select.specs.Outcomes.{ReadsKind, Meets}
+use Rattle.fd_select.proofs.PathLemmas.{reader, braced_leads}
 use Rattle.fd_select.proofs.Parts.{type_front, braces_front, no_braces}
 
 -- ---- each exit
@@ -115,7 +115,7 @@ one_place text m n h k = by (ltb m n) refl
     by true e = let below : m < n = grind (arith, nat_tests) in absurd (h.longest n below k.within k.begins)
     by false e = by_other (ltb n m) refl e
 
-pub one_refusal : (text : List ℕ) (a b : SelectFault) → Refuses text a → Refuses text b → a ≡ b
+pub one_refusal : (text : List ℕ) (a b : SelectFault) → HasSelectFault text a → HasSelectFault text b → a ≡ b
 one_refusal text NoMemory b h k = absurd h
 one_refusal text BadType NoMemory h k = absurd k
 one_refusal text (BadMatcher at) NoMemory h k = absurd k
@@ -124,7 +124,7 @@ one_refusal text BadType (BadMatcher at) h k = absurd (h k.kind k.is_kind)
 one_refusal text (BadMatcher at) BadType h k = absurd (k h.kind h.is_kind)
 one_refusal text (BadMatcher at) (BadMatcher other) h k = ap (λ n. BadMatcher n) (one_place text at other h.place k.place)
 
-pub apart : (text : List ℕ) (s : Selector) (fault : SelectFault) → IsSelectorText text s → Refuses text fault → ⊥
+pub apart : (text : List ℕ) (s : Selector) (fault : SelectFault) → IsSelectorText text s → HasSelectFault text fault → ⊥
 apart text s BadType h k = k s.kind h.kind
 apart text s (BadMatcher at) h k = k.no_matchers s.matchers h.matchers
 apart text s NoMemory h k = k
@@ -135,7 +135,7 @@ selects text (Err BadType) s h k = absurd (apart text s BadType k h)
 selects text (Err (BadMatcher at)) s h k = absurd (apart text s (BadMatcher at) k h)
 selects text (Err NoMemory) s h k = inr refl
 
-pub refuses : (text : List ℕ) (r : Result Selector SelectFault) (fault : SelectFault) → Meets text r → Refuses text fault → (r ≡ Err fault) ⊎ (r ≡ Err NoMemory)
+pub refuses : (text : List ℕ) (r : Result Selector SelectFault) (fault : SelectFault) → Meets text r → HasSelectFault text fault → (r ≡ Err fault) ⊎ (r ≡ Err NoMemory)
 refuses text (Ok t) fault h k = absurd (apart text t fault h k)
 refuses text (Err BadType) fault h k = inl (ap (λ f. Err f) (one_refusal text BadType fault h k))
 refuses text (Err (BadMatcher at)) fault h k = inl (ap (λ f. Err f) (one_refusal text (BadMatcher at) fault h k))

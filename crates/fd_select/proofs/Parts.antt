@@ -4,7 +4,7 @@ use Rattle.std.specs.Borrow.{Bor}
 use Rattle.std.proofs.lemmas.Bool.Decides.{nat_tests}
 use Rattle.std.proofs.lemmas.Str.Pattern.{IsSplitOnceResult, split_parts}
 use Rattle.fd_select.specs.SelectorTexts.{type_part, braces_part, onto_first, parts_of}
-use Rattle.fd_select.specs.Reads.{OpensAt}
+use Rattle.fd_select.specs.Outcomes.{OpensAt}
 
 -- no byte of the list is c
 abbrev Lacks : ℕ → List ℕ → Type 0

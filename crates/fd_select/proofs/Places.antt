@@ -13,8 +13,8 @@ use Rattle.fd_select.specs.SelectorTexts.{IsBraced}
 use Rattle.fd_select.specs.Braces.{BeginsBraces, IsStop}
 use Rattle.fd_select.specs.Machine.{matcher, step, steps, EndsText}
 use Rattle.fd_select.proofs.Basics.{append-nil, through}
-use Rattle.fd_select.proofs.Leads.{reader, start, steps-append, braced_leads}
-use Rattle.fd_select.proofs.Follows.{braced_from_steps}
+use Rattle.fd_select.proofs.PathLemmas.{reader, start, steps-append, braced_leads}
+use Rattle.fd_select.proofs.EndLemmas.{braced_from_steps}
 use Rattle.fd_select.proofs.TextFits.{Fits, fits_step, fits_ends, fits_stopped}
 
 -- the reader has read so many bytes of the text

@@ -1,5 +1,5 @@
 pub mod Braces
 pub mod Machine
 pub mod Moments
-pub mod Reads
+pub mod Outcomes
 pub mod SelectorTexts

@@ -119,7 +119,7 @@ pub record HasNoMatchers (text : List ℕ) (at : ℕ) : Type 0 where
   pub place : IsLongestBeginning text at
 
 -- where each refusal comes; want of memory is none of the text's
-abbrev pub Refuses : List ℕ → SelectFault → Type 0
-Refuses text BadType = HasNoType text
-Refuses text (BadMatcher at) = HasNoMatchers text at
-Refuses text NoMemory = ⊥
+abbrev pub HasSelectFault : List ℕ → SelectFault → Type 0
+HasSelectFault text BadType = HasNoType text
+HasSelectFault text (BadMatcher at) = HasNoMatchers text at
+HasSelectFault text NoMemory = ⊥

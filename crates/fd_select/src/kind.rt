@@ -1,6 +1,6 @@
 ghost use Rattle.std.specs.Prelude.{◌≡◌, ℕ, List, Bool, [], ◌∷◌, MatchOption, codes, if◌then◌else◌};
 ghost use Rattle.fd_select.specs.SelectorTexts.{parts_of};
-ghost use Rattle.fd_select.specs.Reads.{ReadsKind};
+ghost use Rattle.fd_select.specs.Outcomes.{ReadsKind};
 
 use crate::SelectFault;
 use fd_kinds::{ProfileType, Text};

@@ -5,11 +5,11 @@ mod braces;
 mod faults;
 mod kind;
 mod reader;
-mod reading;
+mod selectors;
 #[cfg(test)]
 mod tests;
 mod times;
 
 pub use faults::SelectFault;
-pub use reading::{selector, selector_laws};
+pub use selectors::{selector, selector_laws};
 pub use times::{MomentFault, moment};

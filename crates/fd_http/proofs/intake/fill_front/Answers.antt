@@ -1,9 +1,9 @@
 use Rattle.std.proofs.Common.{ℕ, ◌≡◌, ◌≤◌, ◌<◌, List, [], ◌++◌, length, take, arith, sym, subst, ap, ◌∙◌, length-append, length-take}
 use Rattle.fd_http.specs.Front.{HasNoFront}
 use Rattle.fd_http.specs.Search.{HasSearched}
-use Rattle.fd_http.specs.Rests.{LongFront}
-use Rattle.fd_http.specs.Told.{IfTold, told_then}
-use Rattle.fd_http.proofs.RestLemmas.{long_front, cut_front, read_more}
+use Rattle.fd_http.specs.Inputs.{LongFront}
+use Rattle.fd_http.specs.Remainders.{IfTold, told_then}
+use Rattle.fd_http.proofs.InputLemmas.{long_front, cut_front, read_more}
 use Rattle.fd_http.proofs.SearchLemmas.{searched_append}
 use Rattle.fd_http.proofs.intake.fill_front.Goals as goal
 

@@ -1,5 +1,5 @@
 use Rattle.std.proofs.Common.{◌≡◌, ◌-◌, ◌≤◌, max, length}
-use Rattle.fd_http.specs.Told.{IfTold}
+use Rattle.fd_http.specs.Remainders.{IfTold}
 use Rattle.fd_http.specs.Search.{HasSearched}
 use Rattle.fd_http.proofs.intake.fill_front.Given as goal
 

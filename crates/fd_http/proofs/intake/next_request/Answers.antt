@@ -1,6 +1,6 @@
 use Rattle.std.proofs.Common.{ℕ, List, take, sym, ap, ◌∙◌, subst, Ok, Err}
 use Rattle.fd_http.specs.Intake.{ReadsBody}
-use Rattle.fd_http.proofs.RestLemmas.{arrives_one, arrives_head_refused, arrives_body_refused, same_rest, front_there, head_there}
+use Rattle.fd_http.proofs.InputLemmas.{arrives_one, arrives_head_refused, arrives_body_refused, same_rest, front_there, head_there}
 use Rattle.fd_http.proofs.intake.next_request.Goals as goal
 
 pub returns-in-Err-clause-arrives : goal.returns-in-Err-clause-arrives

@@ -1,8 +1,8 @@
 use Rattle.std.proofs.Common.{ℕ, ◌≡◌, ◌<◌, List, length, take, arith, ◌++◌, sym, subst}
 use Rattle.std.specs.Io.KnownBytes.{Consumes}
-use Rattle.fd_http.specs.Told.{IfTold}
+use Rattle.fd_http.specs.Remainders.{IfTold}
 use Rattle.std.proofs.lemmas.Grind.{common_steps}
-use Rattle.fd_http.proofs.RestLemmas.{body_start, body_more}
+use Rattle.fd_http.proofs.InputLemmas.{body_start, body_more}
 use Rattle.fd_http.proofs.intake.read_body.Goals as goal
 
 pub loop-room-init : goal.loop-room-init

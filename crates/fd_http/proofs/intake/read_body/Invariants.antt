@@ -1,5 +1,5 @@
 use Rattle.std.proofs.Common.{◌≡◌, ◌-◌, ◌<◌, ◌≤◌, ◌++◌, [], length}
-use Rattle.fd_http.specs.Told.{IfTold}
+use Rattle.fd_http.specs.Remainders.{IfTold}
 use Rattle.fd_http.proofs.intake.read_body.Given as goal
 
 abbrev pub invariant-loop-room : goal.invariant-loop-room

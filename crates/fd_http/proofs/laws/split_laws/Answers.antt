@@ -1,4 +1,4 @@
-use Rattle.fd_http.proofs.Unique.{holds_unique, splits_unique, leads_prefix}
+use Rattle.fd_http.proofs.SplitLemmas.{holds_unique, splits_unique, leads_prefix}
 use Rattle.fd_http.proofs.laws.split_laws.Goals as goal
 
 pub returns-clause-next : goal.returns-clause-next

@@ -1,5 +1,5 @@
 use Rattle.std.specs.Vec.Iter.{into_iter_items}
-use Rattle.fd_json.proofs.Decoding.{Decodes}
+use Rattle.fd_json.proofs.BodySteps.{Decodes}
 use Rattle.fd_json.proofs.body.profiles_of.Given as goal
 
 abbrev pub invariant-loop-one : goal.invariant-loop-one

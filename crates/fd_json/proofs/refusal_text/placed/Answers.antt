@@ -1,5 +1,5 @@
 use Rattle.std.proofs.lemmas.Result.{on_ok_weaker}
-use Rattle.fd_json.proofs.Writing.{adds_then}
+use Rattle.fd_json.proofs.TokenSteps.{adds_then}
 use Rattle.fd_json.proofs.refusal_text.placed.Goals as goal
 
 pub returns : goal.returns

@@ -1,7 +1,7 @@
 use Rattle.std.proofs.Common.{Some, sym, ap, ◌∙◌}
 use Rattle.base64.specs.Engines.{standard}
 use Rattle.base64.specs.GeneralPurpose.{decoded_of}
-use Rattle.fd_json.proofs.Parts.{decoded_ok, decoded_err}
+use Rattle.fd_json.proofs.TextLemmas.{decoded_ok, decoded_err}
 use Rattle.fd_json.proofs.shape.decoded.Goals as goal
 
 pub returns-in-Ok : goal.returns-in-Ok

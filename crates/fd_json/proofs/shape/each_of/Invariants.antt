@@ -1,4 +1,4 @@
-use Rattle.fd_json.proofs.Gathered.{Gathers}
+use Rattle.fd_json.proofs.EachSteps.{Gathers}
 use Rattle.fd_json.proofs.shape.each_of.Given as goal
 
 abbrev pub invariant-loop-item : goal.invariant-loop-item
