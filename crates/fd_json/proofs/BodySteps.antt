@@ -76,3 +76,7 @@ pub collects_all : (sent : List SentSeries) (n : ℕ) (done : List RawSeries) (r
     → Collects sent n done rest → rest ≡ [] → series_from 0 sent ≡ Ok done
 collects_all sent n done rest d end =
     sym d.is ∙ ap (λ r. onto (λ more. done ++ more) (series_from n r)) end ∙ ap (λ l. Ok l) (append-nil done)
+
+pub ruleset decode_steps = (decodes_none, decodes_more, decodes_refused, decodes_all)
+
+pub ruleset collect_steps = (collects_none, collects_more, collects_refused, collects_all)

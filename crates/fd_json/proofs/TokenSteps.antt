@@ -57,3 +57,5 @@ adds_then a b c xs ys first second = record {
   tokens = second.tokens ∙ ap (λ ts. ts ++ ys) first.tokens ∙ append_assoc a.tokens xs ys;
   before = second.before ∙ first.before;
 }
+
+pub ruleset list_steps = (writes_none, writes_more, writes_all)

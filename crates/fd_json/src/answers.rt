@@ -89,7 +89,8 @@ fn write_sums(
     total: &i128,
     watermark: u64,
 ) -> Result<(), NoMemory>
-    ensures { OnOk result (Adds out.old out.new (tokens_of (sums_json stacks.now total.now watermark))) }
+    ensures { OnOk result (Adds out.old out.new
+        (tokens_of (sums_json stacks.now total.now watermark))) }
 {
     begin_object(out)?;
     member(out, "stacks", stacks)?;

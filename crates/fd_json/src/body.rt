@@ -29,7 +29,7 @@ fn json_of(alloc: Global, bytes: &[u8]) -> Result<Value, BodyFault>
 }
 
 // The profiles of a series, or the first that is none.
-#[tactic(auto, using(crate::proofs::BodySteps::decodes_none, crate::proofs::BodySteps::decodes_more, crate::proofs::BodySteps::decodes_refused, crate::proofs::BodySteps::decodes_all))]
+#[tactic(auto, using(crate::proofs::BodySteps::decode_steps))]
 fn profiles_of(alloc: Global, series: u64, sent: Items<SentProfile>) -> Result<BytesList, BodyFault>
     ensures ok { IfOk result (λ ps. profiles_from series 0 sent ≡ Ok ps) }
     ensures err { IfErr result (λ e. e ≢ BodyFault.NoMemory → profiles_from series 0 sent ≡ Err e) }
@@ -46,7 +46,7 @@ fn profiles_of(alloc: Global, series: u64, sent: Items<SentProfile>) -> Result<B
     Ok(profiles)
 }
 
-#[tactic(auto, using(crate::proofs::BodySteps::collects_none, crate::proofs::BodySteps::collects_more, crate::proofs::BodySteps::collects_refused, crate::proofs::BodySteps::collects_all))]
+#[tactic(auto, using(crate::proofs::BodySteps::collect_steps))]
 fn bodies_of(alloc: Global, sent: Items<SentSeries>) -> Result<RawSeriesList, BodyFault>
     ensures ok { IfOk result (λ ss. series_from 0 sent ≡ Ok ss) }
     ensures err { IfErr result (λ e. e ≢ BodyFault.NoMemory → series_from 0 sent ≡ Err e) }
@@ -64,7 +64,8 @@ fn bodies_of(alloc: Global, sent: Items<SentSeries>) -> Result<RawSeriesList, Bo
 /// What the value of a write body means. It is let go once its profiles are decoded.
 fn body_in(alloc: Global, value: Value) -> Result<RawBody, BodyFault>
     ensures ok { IfOk result (λ b. body_of_json (Some (view value)) ≡ Ok b) }
-    ensures err { IfErr result (λ e. e ≢ BodyFault.NoMemory → body_of_json (Some (view value)) ≡ Err e) }
+    ensures err { IfErr result (λ e. e ≢ BodyFault.NoMemory
+        → body_of_json (Some (view value)) ≡ Err e) }
 {
     let sent = match shape_of(alloc, &value) {
         Ok(sent) => sent,

@@ -1,4 +1,6 @@
 use fd_kinds::NoMemory;
+use std::error::Error;
+use std::fmt;
 
 /// Why a write body was not read. The first of these that holds is answered.
 #[derive(Debug, Clone, Copy, PartialEq, Eq)]
@@ -14,6 +16,21 @@ pub enum BodyFault {
     /// Want of memory.
     NoMemory,
 }
+
+impl fmt::Display for BodyFault {
+    fn fmt<W: fmt::Write>(&self, f: &mut fmt::Formatter<W>) -> fmt::Result {
+        match self {
+            BodyFault::NotJson => write!(f, "the body is not JSON"),
+            BodyFault::BadShape => write!(f, "the body is JSON of another shape"),
+            BodyFault::BadBase64 { series, sample } => {
+                write!(f, "sample {sample} of series {series} is not base64")
+            }
+            BodyFault::NoMemory => write!(f, "out of memory"),
+        }
+    }
+}
+
+impl Error for BodyFault {}
 
 /// Why a part of a JSON value was not read.
 #[derive(Clone, Copy)]

@@ -50,7 +50,7 @@ fn items_of<'v>(value: &'v Value, name: &str) -> Option<&'v [Value]>
     }
 }
 
-#[tactic(auto, using(crate::proofs::EachSteps::gathers_none, crate::proofs::EachSteps::gathers_more, crate::proofs::EachSteps::gathers_refused, crate::proofs::EachSteps::gathers_all))]
+#[tactic(auto, using(crate::proofs::EachSteps::each_steps))]
 fn each_of<T: ReadsJson + Drop>(alloc: Global, items: &[Value]) -> Result<Items<T>, Unread>
     ensures ok { IfOk result (λ list. each T.meaning (map view items.now) ≡ Some list) }
     ensures err { result ≡ Err Unread.BadShape → each T.meaning (map view items.now) ≡ None }
@@ -69,7 +69,8 @@ fn list_of<T: ReadsJson + Drop>(
     name: &str,
 ) -> Result<Items<T>, Unread>
     ensures ok { IfOk result (λ list.
-        option_and_then (each T.meaning) (items_or_empty (get name.now (view value.now))) ≡ Some list) }
+        option_and_then (each T.meaning) (items_or_empty (get name.now (view value.now)))
+        ≡ Some list) }
     ensures err { result ≡ Err Unread.BadShape
         → option_and_then (each T.meaning) (items_or_empty (get name.now (view value.now))) ≡ None }
 {

@@ -96,7 +96,7 @@ impl WritesJson for Text {
 impl<T: WritesJson> WritesJson for Items<T> {
     ghost json = { list_json T.json };
 
-    #[tactic(auto, using(crate::proofs::TokenSteps::writes_none, crate::proofs::TokenSteps::writes_more, crate::proofs::TokenSteps::writes_all))]
+    #[tactic(auto, using(crate::proofs::TokenSteps::list_steps))]
     fn write(&self, out: &mut Writer) -> Result<(), NoMemory> {
         begin_array(out)?;
         for item in self.as_slice() {
@@ -108,7 +108,8 @@ impl<T: WritesJson> WritesJson for Items<T> {
 
 /// Writes a member of an object.
 pub(crate) fn member<T: WritesJson>(out: &mut Writer, name: &str, value: &T) -> Result<(), NoMemory>
-    ensures { OnOk result (Adds out.old out.new (key_token name.now ∷ tokens_of (T.json value.now))) }
+    ensures { OnOk result (Adds out.old out.new
+        (key_token name.now ∷ tokens_of (T.json value.now))) }
 {
     key(out, name)?;
     value.write(out)
@@ -116,7 +117,8 @@ pub(crate) fn member<T: WritesJson>(out: &mut Writer, name: &str, value: &T) -> 
 
 /// Writes a member whose value is a text.
 pub(crate) fn text_member(out: &mut Writer, name: &str, value: &str) -> Result<(), NoMemory>
-    ensures { OnOk result (Adds out.old out.new (key_token name.now ∷ tokens_of (string value.now))) }
+    ensures { OnOk result (Adds out.old out.new
+        (key_token name.now ∷ tokens_of (string value.now))) }
 {
     key(out, name)?;
     text(out, value)

@@ -140,3 +140,5 @@ refuses text (Ok t) fault h k = absurd (apart text t fault h k)
 refuses text (Err BadType) fault h k = inl (ap (λ f. Err f) (one_refusal text BadType fault h k))
 refuses text (Err (BadMatcher at)) fault h k = inl (ap (λ f. Err f) (one_refusal text (BadMatcher at) fault h k))
 refuses text (Err NoMemory) fault h k = inr refl
+
+pub ruleset selector_facts = (one_selector, one_refusal, apart)

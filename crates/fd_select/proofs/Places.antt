@@ -138,3 +138,5 @@ read_short text i r u h l e =
       begins = begins text (length text) r read (subst IsUtf8 (sym all) u);
       longest = λ n lt le more ms b. absurd (omega arith);
     }
+
+pub ruleset reader_steps = (read_first, read_stops, read_short, ends_text)

@@ -28,7 +28,7 @@ fn finish(reader: Reader) -> Option<Matchers>
 }
 
 /// The matchers of the text behind `{`.
-#[tactic(auto, using(crate::proofs::Places::read_first, crate::proofs::Places::read_stops, crate::proofs::Places::read_short, crate::proofs::Places::ends_text))]
+#[tactic(auto, using(crate::proofs::Places::reader_steps))]
 pub(crate) fn read_braces(alloc: Global, text: &str) -> Result<Matchers, BracesFault>
     ensures { ReadsBraces text.now result }
 {

@@ -1,5 +1,8 @@
 ghost use Rattle.std.specs.Prelude.{◌≡◌};
 
+use std::error::Error;
+use std::fmt;
+
 /// Why a text is no selector.
 #[derive(Debug, Clone, Copy, PartialEq, Eq)]
 pub enum SelectFault {
@@ -12,6 +15,18 @@ pub enum SelectFault {
     /// Want of memory.
     NoMemory,
 }
+
+impl fmt::Display for SelectFault {
+    fn fmt<W: fmt::Write>(&self, f: &mut fmt::Formatter<W>) -> fmt::Result {
+        match self {
+            SelectFault::BadType => write!(f, "no profile type"),
+            SelectFault::BadMatcher { at } => write!(f, "no matcher at byte {at}"),
+            SelectFault::NoMemory => write!(f, "out of memory"),
+        }
+    }
+}
+
+impl Error for SelectFault {}
 
 impl From<fd_kinds::NoMemory> for SelectFault {
     ghost use Rattle.fd_select.specs.declared.faults.SelectFault.TheVariants.{NoMemory};

@@ -8,7 +8,8 @@ use std::alloc::Global;
 
 /// The text before the first `:` and behind it, none where there is no `:`.
 fn next_part(text: &str) -> Option<(&str, &str)>
-    ensures { MatchOption result (parts_of text.now ≡ text.now ∷ []) (λ cut. parts_of text.now ≡ cut.0.now ∷ parts_of cut.1.now) }
+    ensures { MatchOption result (parts_of text.now ≡ text.now ∷ [])
+        (λ cut. parts_of text.now ≡ cut.0.now ∷ parts_of cut.1.now) }
 {
     text.split_once(':')
 }
@@ -16,7 +17,8 @@ fn next_part(text: &str) -> Option<(&str, &str)>
 /// The last part or two: a unit, and whether `delta` stands behind it.
 fn unit_part(text: &str) -> Option<(&str, bool)>
     ensures { MatchOption result
-        ((unit : List ℕ) (delta : Bool) → parts_of text.now ≡ unit ∷ (if delta then codes "delta" ∷ [] else []) → ⊥)
+        ((unit : List ℕ) (delta : Bool)
+            → parts_of text.now ≡ unit ∷ (if delta then codes "delta" ∷ [] else []) → ⊥)
         (λ last. parts_of text.now ≡ last.0.now ∷ (if last.1 then codes "delta" ∷ [] else [])) }
 {
     let Some((unit, last)) = next_part(text) else {

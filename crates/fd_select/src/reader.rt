@@ -114,7 +114,8 @@ impl Reader {
     ) -> Result<Option<Reader>, NoMemory>
         requires name { IsUtf8 name }
         requires value { IsUtf8 value }
-        ensures { IfOk result (λ next. next ≡ at (matchers ++ matcher name op value ∷ []) Stage.Matched) }
+        ensures { IfOk result (λ next.
+            next ≡ at (matchers ++ matcher name op value ∷ []) Stage.Matched) }
     {
         let mut matchers = matchers;
         matchers.push(Matcher {
@@ -132,7 +133,8 @@ impl Reader {
         value: Bytes,
         byte: u8,
     ) -> Result<Option<Reader>, NoMemory>
-        ensures { IfOk result (λ next. next ≡ at matchers (Stage.Quoted name op (value ++ byte ∷ []))) }
+        ensures { IfOk result (λ next.
+            next ≡ at matchers (Stage.Quoted name op (value ++ byte ∷ []))) }
     {
         let mut value = value;
         value.push(byte)?;

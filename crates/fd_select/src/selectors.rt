@@ -12,7 +12,8 @@ use std::alloc::Global;
 
 /// The text before the first `{` and behind it, none where there is no `{`.
 fn open_brace(text: &str) -> Option<(&str, &str)>
-    ensures { MatchOption result (type_part text.now ≡ text.now) (λ cut. OpensAt text.now cut.0.now cut.1.now) }
+    ensures { MatchOption result (type_part text.now ≡ text.now)
+        (λ cut. OpensAt text.now cut.0.now cut.1.now) }
 {
     text.split_once('{')
 }
@@ -62,18 +63,24 @@ fn read_selector(alloc: Global, text: &str) -> Result<Selector, SelectFault>
 /// out, matchers of labels, as `process_cpu:cpu:nanoseconds:cpu:nanoseconds{job="api", env!=""}`.
 pub fn selector(alloc: Global, text: &str) -> Result<Selector, SelectFault>
     ensures selected { IfOk result (λ s. IsSelectorText text.now s) }
-    ensures refused { IfErr result (λ fault. fault ≢ SelectFault.NoMemory → HasSelectFault text.now fault) }
+    ensures refused { IfErr result (λ fault.
+        fault ≢ SelectFault.NoMemory → HasSelectFault text.now fault) }
     // The converse, unless memory is short.
-    ensures selects { (s : Chosen) → IsSelectorText text.now s → (result ≡ Ok s) ⊎ (result ≡ Err SelectFault.NoMemory) }
-    ensures refuses { (fault : Fault) → HasSelectFault text.now fault → (result ≡ Err fault) ⊎ (result ≡ Err SelectFault.NoMemory) }
+    ensures selects { (s : Chosen) → IsSelectorText text.now s
+        → (result ≡ Ok s) ⊎ (result ≡ Err SelectFault.NoMemory) }
+    ensures refuses { (fault : Fault) → HasSelectFault text.now fault
+        → (result ≡ Err fault) ⊎ (result ≡ Err SelectFault.NoMemory) }
 {
     read_selector(alloc, text)
 }
 
 /// A text spells at most one selector, none where it is refused, and is refused in one way.
-#[tactic(auto, using(crate::proofs::Meetings::one_selector, crate::proofs::Meetings::one_refusal, crate::proofs::Meetings::apart))]
+#[tactic(auto, using(crate::proofs::Meetings::selector_facts))]
 pub fn selector_laws()
-    ensures one_selector { (text : List ℕ) (a b : Chosen) → IsSelectorText text a → IsSelectorText text b → a ≡ b }
-    ensures one_refusal { (text : List ℕ) (a b : Fault) → HasSelectFault text a → HasSelectFault text b → a ≡ b }
-    ensures apart { (text : List ℕ) (s : Chosen) (fault : Fault) → IsSelectorText text s → HasSelectFault text fault → ⊥ }
+    ensures one_selector { (text : List ℕ) (a b : Chosen)
+        → IsSelectorText text a → IsSelectorText text b → a ≡ b }
+    ensures one_refusal { (text : List ℕ) (a b : Fault)
+        → HasSelectFault text a → HasSelectFault text b → a ≡ b }
+    ensures apart { (text : List ℕ) (s : Chosen) (fault : Fault)
+        → IsSelectorText text s → HasSelectFault text fault → ⊥ }
 {}

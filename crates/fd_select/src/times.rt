@@ -2,7 +2,9 @@ ghost use Rattle.std.specs.Prelude.{◌≡◌};
 ghost use Rattle.jiff.specs.Words.{parse_timestamp};
 ghost use Rattle.fd_select.specs.Moments.{whole_number, instant_millis, moment_of};
 
-use jiff::{Error, Timestamp};
+use jiff::Timestamp;
+use std::error::Error;
+use std::fmt;
 
 /// Why a text is no time.
 #[derive(Debug, Clone, Copy, PartialEq, Eq)]
@@ -12,6 +14,17 @@ pub enum MomentFault {
     /// Want of memory.
     NoMemory,
 }
+
+impl fmt::Display for MomentFault {
+    fn fmt<W: fmt::Write>(&self, f: &mut fmt::Formatter<W>) -> fmt::Result {
+        match self {
+            MomentFault::BadTime => write!(f, "no time"),
+            MomentFault::NoMemory => write!(f, "out of memory"),
+        }
+    }
+}
+
+impl Error for MomentFault {}
 
 /// A number with no `+` in front.
 fn whole_number(text: &str) -> Option<i64>
@@ -28,7 +41,7 @@ fn instant(text: &str) -> Result<i64, MomentFault>
 {
     match text.parse::<Timestamp>() {
         Ok(instant) => Ok(instant.as_nanosecond().div_euclid(1_000_000) as i64),
-        Err(Error::OutOfMemory) => Err(MomentFault::NoMemory),
+        Err(jiff::Error::OutOfMemory) => Err(MomentFault::NoMemory),
         Err(_) => Err(MomentFault::BadTime),
     }
 }
