@@ -17,7 +17,6 @@ use Rattle.fd_kinds.specs.declared.store.ReadRefusal.{ReadRefusal}
 use Rattle.fd_http.specs.declared.request.Request.{Request}
 use Rattle.fd_http.specs.declared.request.Arrived.TheVariants as arrived
 use Rattle.fd_http.specs.Arrivals.{Arrives}
-use Rattle.fd_http.specs.Prefixes.{HasRead, HasSplit, leads_none, has_read_more, has_read_close, has_read_end, has_read_refused, has_read_limit}
 use Rattle.fd_http.specs.Replies.{AppendsFront}
 use Rattle.fd_http.specs.Inputs.{Holds, refused, End, closed, limit, refused_as}
 use Rattle.fd_http.specs.Inputs as ends
@@ -35,6 +34,7 @@ use Rattle.fd_api.specs.declared.sessions.EndKind.TheVariants as kind
 use Rattle.fd_api.specs.Replies.{IsSent, refusal}
 use Rattle.fd_api.specs.Sessions.{MOST_REQUESTS, Runs, Serves, Served, Ends, SinkCause, is_last, is_faulted, Begins, IsSplit, IsBegun, IsDrained, AppendsThen}
 use Rattle.fd_api.specs.Turns.{PutsReply, Turned, Unturned, NoRequest, EndsAt, Silent, Turns, after_put}
+use Rattle.fd_api.proofs.InputSteps.{HasRead, HasSplit, leads_none, has_read_more, has_read_close, has_read_end, has_read_refused, has_read_limit}
 use Rattle.fd_api.proofs.SinkLemmas.{Appends-Keeps}
 
 second_nil : (xs ys : List ℕ) → xs ++ ys ≡ [] → ys ≡ []

@@ -12,7 +12,8 @@ use Rattle.fd_http.specs.declared.request.RequestFault.TheVariants.{BadHead, NoL
 use Rattle.fd_http.specs.Front.{HasNoFront}
 use Rattle.fd_http.specs.Heads.{IsHead, IsNoHead, head_of, body_len, sized, ReadsHead}
 use Rattle.fd_http.specs.Inputs.{Fronted, Headed, Begins, CutInFront, LongFront, HeadRefused, HasRequestFault, request_of}
-use Rattle.fd_http.specs.Remainders.{IfTold, told_then}
+use Rattle.fd_http.specs.Remainders.{IfTold}
+use Rattle.fd_http.proofs.RemainderLemmas.{told_then}
 use Rattle.fd_http.specs.Arrivals.{Arrives}
 use Rattle.fd_http.specs.Intake.{FrontAt, ReadsBody, Fills}
 
@@ -83,7 +84,7 @@ known_fault false true n e is = let same : e ≡ TooLarge = cc in inr same
 known_fault false false n e is = let never : ⊥ = cc in absurd never
 
 -- a head is refused in three ways alone
-sized_fault : (l : Length) (head : Head) (e : RequestFault) → sized l head ≡ Err e → (e ≡ BadHead) ⊎ ((e ≡ NoLength) ⊎ (e ≡ TooLarge))
+pub sized_fault : (l : Length) (head : Head) (e : RequestFault) → sized l head ≡ Err e → (e ≡ BadHead) ⊎ ((e ≡ NoLength) ⊎ (e ≡ TooLarge))
 sized_fault Wrong head e is = let same : e ≡ BadHead = cc in inl same
 sized_fault Absent head e is = inr (inl (absent_fault (head.transfer_encoded || bytes_eq head.method (codes "POST")) e is))
 sized_fault (Of n) head e is = inr (known_fault head.transfer_encoded (nat_lt 16777216 n) n e is)
@@ -201,3 +202,9 @@ head_there bytes front found head same is reads =
     let P : List ℕ → Type 0 = λ x. ReadsHead x found in
     let Q : Option Head → Type 0 = λ x. ReadsHead front x in
     subst Q is (subst P same reads)
+
+pub no_head_there : (bytes front : List ℕ) (found : Option Head) → bytes ≡ front → found ≡ None → ReadsHead bytes found → IsNoHead front
+no_head_there bytes front found same is reads =
+    let P : List ℕ → Type 0 = λ x. IsNoHead x in
+    let Q : Option Head → Type 0 = λ x. ReadsHead bytes x in
+    subst P same (subst Q is reads)

@@ -1,7 +1,9 @@
-pub mod HeaderSteps
-pub mod HeadLemmas
-pub mod InputLemmas
-pub mod ReplyLemmas
-pub mod SplitLemmas
 pub mod FrontSteps
+pub mod GivenLemmas
+pub mod HeadLemmas
+pub mod HeaderSteps
+pub mod InputLemmas
+pub mod RemainderLemmas
+pub mod ReplyLemmas
 pub mod SearchLemmas
+pub mod SplitLemmas

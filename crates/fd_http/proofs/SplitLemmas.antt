@@ -15,7 +15,7 @@ use Rattle.fd_http.specs.Inputs.{Next, nothing, one, refused, Holds, Fronted, He
 use Rattle.fd_http.specs.Prefixes.{Leads}
 
 -- a front is a prefix, so its length gives it
-front_is : (rest front more : List ℕ) → rest ≡ front ++ more → take (length front) rest ≡ front
+pub front_is : (rest front more : List ℕ) → rest ≡ front ++ more → take (length front) rest ≡ front
 front_is rest front more parts = ap (take (length front)) parts ∙ take_at front more (length front) refl
 
 -- no front is shorter than another

@@ -1,10 +1,10 @@
+pub mod Arrivals
 pub mod Front
 pub mod Headers
 pub mod Heads
 pub mod Inputs
-pub mod Remainders
-pub mod Arrivals
-pub mod Prefixes
 pub mod Intake
-pub mod Search
+pub mod Prefixes
+pub mod Remainders
 pub mod Replies
+pub mod Search

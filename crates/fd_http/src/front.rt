@@ -37,8 +37,10 @@ impl FrontSearch {
     fn see(&mut self, byte: u8) -> bool
         requires { self.old.place < 2 ^ 63 }
         ensures place { self.new.place ≡ self.old.place + 1 }
-        ensures ends { (seen : List ℕ) → EndsAs seen self.old → EndsAs (seen ++ byte ∷ []) self.new }
-        ensures found { (seen : List ℕ) → EndsAs seen self.old → result ≡ is_blank_ended (seen ++ byte ∷ []) }
+        ensures ends { (seen : List ℕ) → EndsAs seen self.old
+            → EndsAs (seen ++ byte ∷ []) self.new }
+        ensures found { (seen : List ℕ) → EndsAs seen self.old
+            → result ≡ is_blank_ended (seen ++ byte ∷ []) }
     {
         let is_feed = byte == LF;
         let ends_line = is_feed && self.after_line;
@@ -55,7 +57,8 @@ impl FrontSearch {
         requires { HasSearched bytes.now self.old }
         ensures within { IfSome result (λ n. n ≤ length bytes.now) }
         ensures ends { IfSome result (λ n. IsTrue (is_blank_ended (take n bytes.now))) }
-        ensures shortest { IfSome result (λ n. (k : ℕ) → k < n → IsFalse (is_blank_ended (take k bytes.now))) }
+        ensures shortest { IfSome result (λ n. (k : ℕ) → k < n
+            → IsFalse (is_blank_ended (take k bytes.now))) }
         ensures none { IfNone result (HasNoFront bytes.now) }
         ensures searched { IfNone result (HasSearched bytes.now self.new) }
     {

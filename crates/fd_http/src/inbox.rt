@@ -4,7 +4,8 @@ use fd_lists::NoMemory;
 use std::alloc::Global;
 use std::marker::Model;
 
-/// Bytes that were read from a source and not yet used. One inbox serves one source.
+/// Bytes that were read from a source and not yet used. One inbox serves one source: it must never
+/// be used with another, nor after a refusal.
 #[derive(Drop)]
 pub struct Inbox {
     bytes: Vec<u8>,

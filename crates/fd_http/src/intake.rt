@@ -1,5 +1,8 @@
-ghost use Rattle.std.specs.Prelude.{◌≡◌, ◌≤◌, ◌<◌, max, length, take, drop, IfOk, IfSome, IfNone, IsOkAnd};
-ghost use Rattle.fd_http.specs.Arrivals.{Arrives, ReadCause};
+ghost use Rattle.std.specs.Prelude.{◌≡◌, ◌≤◌, ◌<◌, ◌++◌, ℕ, List, max, length, take, drop, IfOk, IfErr, IfSome, IfNone};
+ghost use Rattle.fd_http.specs.Remainders.{Given};
+ghost use Rattle.fd_http.specs.Inputs.{Begins};
+ghost use Rattle.fd_http.specs.declared.request.Request.{Request as Whole};
+ghost use Rattle.fd_http.specs.Arrivals.{Arrives, ReadCause, AtReadFault, IfOne, IsUnfinished};
 ghost use Rattle.fd_http.specs.Front.{HasNoFront};
 ghost use Rattle.fd_http.specs.Search.{HasSearched};
 ghost use Rattle.fd_http.specs.Intake.{Fills, FrontAt, ReadsBody};
@@ -31,6 +34,12 @@ fn find_front(search: &mut FrontSearch, bytes: &[u8]) -> Option<usize>
 fn fill_front<S: Source>(source: &mut S, inbox: &mut Inbox) -> Result<Option<usize>, RequestFault>
     ensures fills { Fills (S.left source.old) (S.left source.new) inbox.old inbox.new result }
     ensures front { IfOk result (λ found. IfSome found (FrontAt inbox.new)) }
+    ensures given { IfOk result (λ found. IfSome found (λ n.
+        Given (S.left source.old) (S.left source.new) inbox.old (λ given. given ≡ inbox.new))) }
+    ensures fault { IfErr result (λ fault. AtReadFault fault
+        (Given (S.left source.old) (S.left source.new) inbox.old IsUnfinished)) }
+    ensures alone { (n : ℕ) → FrontAt inbox.old n
+        → (source.new ≡ source.old) × (inbox.new ≡ inbox.old) }
     ensures ahead { length inbox.new ≤ max (length inbox.old) 20479 }
     ensures cause { ReadCause (S.faults source.old) (S.faults source.new) result }
 {
@@ -65,7 +74,13 @@ fn read_body<S: Source>(
     inbox: &mut Inbox,
     size: usize,
 ) -> Result<Bytes, RequestFault>
-    ensures reads { ReadsBody (S.left source.old) (S.left source.new) inbox.old inbox.new size result }
+    ensures reads { ReadsBody (S.left source.old) (S.left source.new)
+        inbox.old inbox.new size result }
+    ensures given { IfOk result (λ body. Given (S.left source.old) (S.left source.new) inbox.old
+        (λ given. given ≡ body ++ inbox.new)) }
+    ensures fault { IfErr result (λ fault. AtReadFault fault
+        (Given (S.left source.old) (S.left source.new) inbox.old (λ given. length given < size))) }
+    ensures alone { size ≤ length inbox.old → source.new ≡ source.old }
     ensures ahead { length inbox.new ≤ length inbox.old }
     ensures cause { ReadCause (S.faults source.old) (S.faults source.new) result }
 {
@@ -89,12 +104,21 @@ fn read_body<S: Source>(
 /// bytes and no further than the piece in which the request ends, so that the inbox stays small.
 /// A head that is refused is refused before its body is read. After a refusal the inbox is not used
 /// again.
+///
+/// Where the inbox holds a whole request, the source is left alone; and where the source fails, the
+/// bytes given so far hold none.
 pub fn next_request<S: Source>(
     alloc: Global,
     source: &mut S,
     inbox: &mut Inbox,
 ) -> Result<Arrived, RequestFault>
     ensures arrives { Arrives (S.left source.old) (S.left source.new) inbox.old inbox.new result }
+    ensures given { IfOne result (λ request. Given (S.left source.old) (S.left source.new) inbox.old
+        (λ given. Begins given request inbox.new)) }
+    ensures fault { IfErr result (λ fault. AtReadFault fault
+        (Given (S.left source.old) (S.left source.new) inbox.old IsUnfinished)) }
+    ensures alone { (request : Whole) (after : List ℕ) → Begins inbox.old request after
+        → source.new ≡ source.old }
     ensures ahead { length inbox.new ≤ max (length inbox.old) 20479 }
     ensures cause { ReadCause (S.faults source.old) (S.faults source.new) result }
 {

@@ -7,7 +7,9 @@ ghost use Rattle.fd_http.specs.Prefixes.{Leads};
 /// of these bytes; and requests with which they begin are the first of their split.
 pub fn split_laws()
     ensures next { (rest : List ℕ) (a b : Next) → Holds rest a → Holds rest b → a ≡ b }
-    ensures split { (bytes : List ℕ) (rs ss : List Request) (e f : End) → Splits bytes rs e → Splits bytes ss f → (rs ≡ ss) × (e ≡ f) }
-    ensures prefix { (bytes after : List ℕ) (rs all : List Request) (left : ℕ) (end : End) → Leads rs 100000 bytes left after → Splits bytes all end
+    ensures split { (bytes : List ℕ) (rs ss : List Request) (e f : End)
+        → Splits bytes rs e → Splits bytes ss f → (rs ≡ ss) × (e ≡ f) }
+    ensures prefix { (bytes after : List ℕ) (rs all : List Request) (left : ℕ) (end : End)
+        → Leads rs 100000 bytes left after → Splits bytes all end
         → (more : List Request) × (all ≡ rs ++ more) × SplitsWithin more left after end }
 {}

@@ -1,7 +1,8 @@
-use Rattle.std.proofs.Common.{ℕ, ◌≡◌, ◌<◌, List, length, take, arith, ◌++◌, sym, subst}
+use Rattle.std.proofs.Common.{ℕ, ◌≡◌, ◌<◌, List, length, take, arith, ◌++◌, sym, subst, ap, refl, length-append}
 use Rattle.std.specs.Io.KnownBytes.{Consumes}
-use Rattle.fd_http.specs.Remainders.{IfTold}
+use Rattle.fd_http.specs.Remainders.{IfTold, Given}
 use Rattle.std.proofs.lemmas.Grind.{common_steps}
+use Rattle.fd_http.proofs.GivenLemmas.{given_start, given_body, given_kept}
 use Rattle.fd_http.proofs.InputLemmas.{body_start, body_more}
 use Rattle.fd_http.proofs.intake.read_body.Goals as goal
 
@@ -9,6 +10,8 @@ pub loop-room-init : goal.loop-room-init
 loop-room-init g c =
     let begun : c.extend_from_slice.new.self.items ≡ take c.min-here.result c.args.inbox.now = grind (arith, common_steps) in
     record {
+      given = given_start (g.S.Source.left c.args.source.now) c.args.inbox.now c.skip.new.self c.extend_from_slice.new.self.items c.min-here.result begun (grind (arith, common_steps));
+      alone = λ enough. (grind (arith, common_steps), refl);
       told = body_start _ c.args.inbox.now c.skip.new.self c.extend_from_slice.new.self.items c.min-here.result begun (grind (arith, common_steps));
       within = grind (arith, common_steps);
       used = λ short. grind (arith, common_steps);
@@ -22,10 +25,19 @@ loop-room-preserved g c =
     let grown : c.extend_from_slice-in-Got.new.self.items ≡ c.loop-room.body.items ++ take c.in-Got.count c.read.new.piece = c.in_ok-extend_from_slice-in-Got.ensures.items in
     let short : length c.loop-room.body.items < c.args.size = omega (arith, c.loop-room-test.true) in
     let P : List ℕ → Type 0 = λ xs. IfTold (g.S.Source.left c.args.source.now) (g.S.Source.left c.read.new.self) c.args.inbox.now c.skip.new.self (λ (rest after : List ℕ). rest ≡ xs ++ after) in
+    let G : List ℕ → Type 0 = λ xs. Given (g.S.Source.left c.args.source.now) (g.S.Source.left c.read.new.self) c.args.inbox.now (λ given. given ≡ xs ++ c.skip.new.self) in
     record {
+      given = subst G (sym grown) (given_body (g.S.Source.left c.args.source.now) (g.S.Source.left c.loop-room.source) (g.S.Source.left c.read.new.self) c.args.inbox.now c.skip.new.self c.loop-room.body.items (take c.in-Got.count c.read.new.piece) (c.loop-room.invariant.used short) c.loop-room.invariant.given took);
+      alone = λ enough. absurd (omega (arith, short, (c.loop-room.invariant.alone enough).0));
       told = subst P (sym grown) (body_more (g.S.Source.left c.args.source.now) (g.S.Source.left c.loop-room.source) (g.S.Source.left c.read.new.self) c.args.inbox.now c.skip.new.self c.loop-room.body.items (take c.in-Got.count c.read.new.piece) (c.loop-room.invariant.used short) c.loop-room.invariant.told took);
       within = grind (arith, common_steps);
       used = λ _. c.loop-room.invariant.used short;
       ahead = c.loop-room.invariant.ahead;
       faults = grind (arith, common_steps);
     }
+
+pub returns-in-Failed-clause-fault : goal.returns-in-Failed-clause-fault
+returns-in-Failed-clause-fault g c =
+    let short : length c.loop-room.body.items < c.args.size = omega (arith, c.loop-room-test.true) in
+    given_kept (g.S.Source.left c.args.source.now) (g.S.Source.left c.loop-room.source) (g.S.Source.left c.read.new.self) c.args.inbox.now (λ given. given ≡ c.loop-room.body.items ++ c.skip.new.self) (λ given. length given < c.args.size) c.loop-room.invariant.given c.in-Failed.ensures.bytes
+    (λ xs same. omega (arith, short, ap length same, length-append c.loop-room.body.items c.skip.new.self, ap length (c.loop-room.invariant.used short)))

@@ -1,0 +1,98 @@
+-- The requests that were read so far: what a loop over them keeps, and how it ends.
+use Rattle.std.proofs.Common.{ℕ, ◌≡◌, ◌<◌, ◌-◌, List, [], ◌∷◌, ◌++◌, None, Some, Ok, subst, sym, refl, ap, inl, inr}
+use Rattle.std.specs.Bool.{IsTrue, IsFalse}
+use Rattle.std.specs.declared.option.Option.{Option}
+use Rattle.std.proofs.lemmas.List.{append-nil}
+use Rattle.fd_http.specs.declared.request.Request.{Request}
+use Rattle.fd_http.specs.declared.request.Arrived.TheVariants.{One, End as NoMore}
+use Rattle.fd_http.specs.declared.request.RequestFault.{RequestFault}
+use Rattle.fd_http.specs.Inputs.{nothing, refused, Holds, Begins, HasRequestFault, End, ended, closed, limit, refused_as, SplitsWithin, Splits}
+use Rattle.fd_http.specs.Prefixes.{Leads}
+use Rattle.fd_http.specs.Remainders.{IfTold}
+use Rattle.fd_http.specs.Arrivals.{Arrives}
+use Rattle.fd_http.proofs.RemainderLemmas.{told_then}
+
+-- one reading after another
+pub told_trans : (old mid new : Option (List ℕ)) (a b c : List ℕ) (P Q R : List ℕ → List ℕ → Type 0) → IfTold old mid a b P → IfTold mid new b c Q
+    → ((x y z : List ℕ) → P (a ++ x) (b ++ y) → Q (b ++ y) (c ++ z) → R (a ++ x) (c ++ z)) → IfTold old new a c R
+told_trans None mid new a b c P Q R first second f = tt
+told_trans (Some x) None new a b c P Q R first second f = absurd first
+told_trans (Some x) (Some y) None a b c P Q R first second f = second
+told_trans (Some x) (Some y) (Some z) a b c P Q R first second f = f x y z first second
+
+-- no request yet
+pub leads_none : (room : ℕ) (bytes : List ℕ) → Leads [] room bytes room bytes
+leads_none room bytes = (refl, refl)
+
+-- one more request, which does not ask to close
+pub leads_push : (requests : List Request) (room : ℕ) (bytes : List ℕ) (left : ℕ) (rest after : List ℕ) (request : Request) → Leads requests room bytes left rest
+    → 0 < left → Begins rest request after → IsFalse request.close → Leads (requests ++ request ∷ []) room bytes (left - 1) after
+leads_push [] room bytes left rest after request leads some begins going =
+    let P : ℕ → Type 0 = λ n. 0 < n in
+    let Q : List ℕ → Type 0 = λ xs. Begins xs request after in
+    (subst P leads.0 some, after, subst Q (sym leads.1) begins, going, (ap (λ (n : ℕ). n - 1) leads.0, refl))
+leads_push (first ∷ requests) room bytes left rest after request leads some begins going =
+    (leads.0, leads.1, leads.2, leads.3, leads_push requests (room - 1) leads.1 left rest after request leads.4 some begins going)
+
+-- the split of what follows is the rest of the split
+pub leads_then : (requests more : List Request) (room : ℕ) (bytes : List ℕ) (left : ℕ) (after : List ℕ) (end : End) → Leads requests room bytes left after
+    → SplitsWithin more left after end → SplitsWithin (requests ++ more) room bytes end
+leads_then [] more room bytes left after end leads splits =
+    let P : ℕ → Type 0 = λ n. SplitsWithin more n after end in
+    let Q : List ℕ → Type 0 = λ xs. SplitsWithin more room xs end in
+    subst Q (sym leads.1) (subst P leads.0 splits)
+leads_then (first ∷ requests) more room bytes left after end leads splits =
+    (leads.0, leads.1, leads.2, inr (leads.3, leads_then requests more (room - 1) leads.1 left after end leads.4 splits))
+
+-- one more request, which asks to close
+pub leads_close : (requests : List Request) (room : ℕ) (bytes : List ℕ) (left : ℕ) (rest after : List ℕ) (request : Request) → Leads requests room bytes left rest
+    → 0 < left → Begins rest request after → IsTrue request.close → SplitsWithin (requests ++ request ∷ []) room bytes closed
+leads_close requests room bytes left rest after request leads some begins close =
+    leads_then requests (request ∷ []) room bytes left rest closed leads (some, after, begins, inl (close, refl, refl))
+
+-- no further request
+pub leads_end : (requests : List Request) (room : ℕ) (bytes : List ℕ) (left : ℕ) (after : List ℕ) (end : End) → Leads requests room bytes left after
+    → SplitsWithin [] left after end → SplitsWithin requests room bytes end
+leads_end requests room bytes left after end leads splits =
+    let P : List Request → Type 0 = λ all. SplitsWithin all room bytes end in
+    subst P (append-nil requests) (leads_then requests [] room bytes left after end leads splits)
+
+-- The same of a session's requests, over an inbox and a source: from the rest before to the rest
+-- after, with so many requests left of 100,000.
+abbrev pub HasRead : Option (List ℕ) → Option (List ℕ) → List ℕ → List ℕ → List Request → ℕ → Type 0
+HasRead old new a b requests left = IfTold old new a b (λ rest after. Leads requests 100000 rest left after)
+
+-- the rest before splits into these requests and this end
+abbrev pub HasSplit : Option (List ℕ) → Option (List ℕ) → List ℕ → List ℕ → List Request → End → Type 0
+HasSplit old new a b requests end = IfTold old new a b (λ rest after. Splits rest requests end)
+
+-- each answer of the next request, by its case
+pub has_read_more : (old mid new : Option (List ℕ)) (a b c : List ℕ) (requests : List Request) (left : ℕ) (request : Request) → HasRead old mid a b requests left → 0 < left
+    → Arrives mid new b c (Ok (One request)) → IsFalse request.close → HasRead old new a c (requests ++ request ∷ []) (left - 1)
+has_read_more old mid new a b c requests left request so_far some next going =
+    told_trans old mid new a b c (λ (rest after : List ℕ). Leads requests 100000 rest left after) (λ (rest after : List ℕ). Begins rest request after) (λ (rest after : List ℕ). Leads (requests ++ request ∷ []) 100000 rest (left - 1) after) so_far next
+    (λ x y z leads begins. leads_push requests 100000 (a ++ x) left (b ++ y) (c ++ z) request leads some begins going)
+
+pub has_read_close : (old mid new : Option (List ℕ)) (a b c : List ℕ) (requests : List Request) (left : ℕ) (request : Request) → HasRead old mid a b requests left → 0 < left
+    → Arrives mid new b c (Ok (One request)) → IsTrue request.close → HasSplit old new a c (requests ++ request ∷ []) closed
+has_read_close old mid new a b c requests left request so_far some next close =
+    told_trans old mid new a b c (λ (rest after : List ℕ). Leads requests 100000 rest left after) (λ (rest after : List ℕ). Begins rest request after) (λ (rest after : List ℕ). SplitsWithin (requests ++ request ∷ []) 100000 rest closed) so_far next
+    (λ x y z leads begins. leads_close requests 100000 (a ++ x) left (b ++ y) (c ++ z) request leads some begins close)
+
+pub has_read_end : (old mid new : Option (List ℕ)) (a b c : List ℕ) (requests : List Request) (left : ℕ) → HasRead old mid a b requests left → 0 < left
+    → Arrives mid new b c (Ok NoMore) → HasSplit old new a c requests ended
+has_read_end old mid new a b c requests left so_far some next =
+    told_trans old mid new a b c (λ (rest after : List ℕ). Leads requests 100000 rest left after) (λ (rest after : List ℕ). Holds rest nothing × (after ≡ [])) (λ (rest after : List ℕ). SplitsWithin requests 100000 rest ended) so_far next
+    (λ x y z leads holds. leads_end requests 100000 (a ++ x) left (b ++ y) ended leads (some, holds.0))
+
+pub has_read_refused : (old mid new : Option (List ℕ)) (a b c : List ℕ) (requests : List Request) (left : ℕ) (fault : RequestFault) → HasRead old mid a b requests left → 0 < left
+    → IfTold mid new b c (λ rest after. Holds rest (refused fault)) → HasSplit old new a c requests (refused_as fault)
+has_read_refused old mid new a b c requests left fault so_far some next =
+    told_trans old mid new a b c (λ (rest after : List ℕ). Leads requests 100000 rest left after) (λ (rest after : List ℕ). HasRequestFault rest fault) (λ (rest after : List ℕ). SplitsWithin requests 100000 rest (refused_as fault)) so_far next
+    (λ x y z leads refuses. leads_end requests 100000 (a ++ x) left (b ++ y) (refused_as fault) leads (some, refuses))
+
+-- after the last of 100,000 requests
+pub has_read_limit : (old new : Option (List ℕ)) (a b : List ℕ) (requests : List Request) (left : ℕ) → HasRead old new a b requests left → left ≡ 0 → HasSplit old new a b requests limit
+has_read_limit old new a b requests left so_far none =
+    told_then old new a b (λ (rest after : List ℕ). Leads requests 100000 rest left after) (λ (rest after : List ℕ). SplitsWithin requests 100000 rest limit) so_far
+    (λ x y leads. leads_end requests 100000 (a ++ x) left (b ++ y) limit leads none)
