@@ -1,15 +1,19 @@
 -- The requests that were read so far: what a loop over them keeps, and how it ends.
-use Rattle.std.proofs.Common.{ℕ, ◌≡◌, ◌<◌, ◌-◌, List, [], ◌∷◌, ◌++◌, None, Some, Ok, subst, sym, refl, ap, inl, inr}
+use Rattle.std.proofs.Common.{ℕ, ◌≡◌, ◌<◌, ◌-◌, List, [], ◌∷◌, ◌++◌, None, Some, length, take, drop, Ok, subst, sym, refl, ap, ◌∙◌, arith, append_assoc, length-append, ◌⊎◌, inl, inr}
 use Rattle.std.specs.Bool.{IsTrue, IsFalse}
 use Rattle.std.specs.declared.option.Option.{Option}
-use Rattle.std.proofs.lemmas.List.{append-nil}
+use Rattle.std.proofs.lemmas.List.{append-nil, take-append-le, drop-append-le}
+use Rattle.std.proofs.KnownBytes.{Consumes-trans}
+use Rattle.httparse.specs.Grammar.{RequestHead}
 use Rattle.fd_http.specs.declared.request.Request.{Request}
 use Rattle.fd_http.specs.declared.request.Arrived.TheVariants.{One, End as NoMore}
 use Rattle.fd_http.specs.declared.request.RequestFault.{RequestFault}
-use Rattle.fd_http.specs.Inputs.{nothing, refused, Holds, Begins, HasRequestFault, End, ended, closed, limit, refused_as, SplitsWithin, Splits}
+use Rattle.fd_http.specs.declared.request.RequestFault.TheVariants.{Cut}
+use Rattle.fd_http.specs.Heads.{head_of}
+use Rattle.fd_http.specs.Inputs.{nothing, refused, Holds, Headed, request_of, Begins, HasRequestFault, End, ended, closed, limit, refused_as, SplitsWithin, Splits}
 use Rattle.fd_http.specs.Prefixes.{Leads}
-use Rattle.fd_http.specs.Remainders.{IfTold}
-use Rattle.fd_http.specs.Arrivals.{Arrives}
+use Rattle.fd_http.specs.Remainders.{IfTold, Given}
+use Rattle.fd_http.specs.Arrivals.{Arrives, IsUnfinished}
 use Rattle.fd_http.proofs.RemainderLemmas.{told_then}
 
 -- one reading after another
@@ -96,3 +100,64 @@ pub has_read_limit : (old new : Option (List ℕ)) (a b : List ℕ) (requests : 
 has_read_limit old new a b requests left so_far none =
     told_then old new a b (λ (rest after : List ℕ). Leads requests 100000 rest left after) (λ (rest after : List ℕ). SplitsWithin requests 100000 rest limit) so_far
     (λ x y leads. leads_end requests 100000 (a ++ x) left (b ++ y) limit leads none)
+
+-- more bytes behind
+headed_more : (rest : List ℕ) (h : RequestHead) (more ys : List ℕ) → Headed rest h more → Headed (rest ++ ys) h (more ++ ys)
+headed_more rest h more ys headed = record {
+  front = headed.front;
+  fronted = record {
+    is_front = record {
+      parts = ap (λ (xs : List ℕ). xs ++ ys) headed.fronted.is_front.parts ∙ append_assoc headed.front more ys;
+      ends = headed.fronted.is_front.ends;
+      shortest = headed.fronted.is_front.shortest;
+    };
+    short = headed.fronted.short;
+  };
+  head = headed.head;
+}
+
+begins_more : (rest after ys : List ℕ) (request : Request) → Begins rest request after → Begins (rest ++ ys) request (after ++ ys)
+begins_more rest after ys request begins = record {
+  h = begins.h;
+  more = begins.more ++ ys;
+  headed = headed_more rest begins.h begins.more ys begins.headed;
+  size = begins.size;
+  sized = begins.sized;
+  whole = omega (arith, begins.whole, length-append begins.more ys);
+  request_is = begins.request_is ∙ ap (request_of (head_of begins.h)) (sym (take-append-le begins.size begins.more ys begins.whole));
+  after_is = ap (λ (xs : List ℕ). xs ++ ys) begins.after_is ∙ sym (drop-append-le begins.size begins.more ys begins.whole);
+}
+
+leads_more : (requests : List Request) (room : ℕ) (bytes : List ℕ) (left : ℕ) (after ys : List ℕ) → Leads requests room bytes left after → Leads requests room (bytes ++ ys) left (after ++ ys)
+leads_more [] room bytes left after ys leads = (leads.0, ap (λ (xs : List ℕ). xs ++ ys) leads.1)
+leads_more (request ∷ requests) room bytes left after ys leads =
+    (leads.0, leads.1 ++ ys, begins_more bytes leads.1 ys request leads.2, leads.3, leads_more requests (room - 1) leads.1 left after ys leads.4)
+
+-- the bytes given so far, with one more request
+pub given_push : (old mid new : Option (List ℕ)) (inbox_mid inbox : List ℕ) (requests : List Request) (room : ℕ) (request : Request)
+    → Given old mid [] (λ given. Leads requests 100000 given room inbox_mid) → 0 < room → Given mid new inbox_mid (λ given. Begins given request inbox) → IsFalse request.close
+    → Given old new [] (λ given. Leads (requests ++ request ∷ []) 100000 given (room - 1) inbox)
+given_push old mid new inbox_mid inbox requests room request so_far some next going = record {
+  bytes = so_far.bytes ++ next.bytes;
+  consumed = Consumes-trans old mid new so_far.bytes next.bytes so_far.consumed next.consumed;
+  holds =
+      leads_push requests 100000 (so_far.bytes ++ next.bytes) room (inbox_mid ++ next.bytes) inbox request
+      (leads_more requests 100000 so_far.bytes room inbox_mid next.bytes so_far.holds) some next.holds going;
+}
+
+-- they hold no other request
+pub given_all : (old mid new : Option (List ℕ)) (inbox : List ℕ) (requests : List Request) (room : ℕ)
+    → Given old mid [] (λ given. Leads requests 100000 given room inbox) → 0 < room → Given mid new inbox IsUnfinished
+    → Given old new [] (λ given. Splits given requests ended ⊎ Splits given requests (refused_as Cut))
+given_all old mid new inbox requests room so_far some next = record {
+  bytes = so_far.bytes ++ next.bytes;
+  consumed = Consumes-trans old mid new so_far.bytes next.bytes so_far.consumed next.consumed;
+  holds = by next.holds;
+}
+  where
+    leads : Leads requests 100000 (so_far.bytes ++ next.bytes) room (inbox ++ next.bytes)
+    leads = leads_more requests 100000 so_far.bytes room inbox next.bytes so_far.holds
+
+    by : IsUnfinished (inbox ++ next.bytes) → Splits (so_far.bytes ++ next.bytes) requests ended ⊎ Splits (so_far.bytes ++ next.bytes) requests (refused_as Cut)
+    by (inl nothing_more) = inl (leads_end requests 100000 (so_far.bytes ++ next.bytes) room (inbox ++ next.bytes) ended leads (some, nothing_more))
+    by (inr cut) = inr (leads_end requests 100000 (so_far.bytes ++ next.bytes) room (inbox ++ next.bytes) (refused_as Cut) leads (some, cut))

@@ -4,7 +4,7 @@ use mathlib.Core.Logic.{◌⊎◌, inl, inr}
 use Rattle.std.proofs.lemmas.Bool.Decides.{nat_tests}
 use Rattle.std.proofs.lemmas.List.{append-nil}
 use Rattle.std.proofs.Math.Seq.{take-append-add}
-use Rattle.std.proofs.KnownBytes.{Appends-trans, Appends-nil}
+use Rattle.std.proofs.KnownBytes.{Appends-trans, Appends-nil, Consumes-nil}
 use Rattle.std.specs.declared.option.Option.{Option}
 use Rattle.std.specs.Io.KnownBytes.{Appends}
 use Rattle.fd_lists.specs.Counts.{Rose}
@@ -16,11 +16,12 @@ use Rattle.fd_kinds.specs.declared.store.WriteRefusal.{WriteRefusal}
 use Rattle.fd_kinds.specs.declared.store.ReadRefusal.{ReadRefusal}
 use Rattle.fd_http.specs.declared.request.Request.{Request}
 use Rattle.fd_http.specs.declared.request.Arrived.TheVariants as arrived
-use Rattle.fd_http.specs.Arrivals.{Arrives}
+use Rattle.fd_http.specs.Arrivals.{Arrives, AtReadFault, IsUnfinished}
 use Rattle.fd_http.specs.Replies.{AppendsFront}
 use Rattle.fd_http.specs.Inputs.{Holds, refused, End, closed, limit, refused_as}
 use Rattle.fd_http.specs.Inputs as ends
-use Rattle.fd_http.specs.Remainders.{IfTold}
+use Rattle.fd_http.specs.Prefixes.{Leads}
+use Rattle.fd_http.specs.Remainders.{IfTold, Given}
 use Rattle.fd_http.specs.declared.request.RequestFault.{RequestFault}
 use Rattle.fd_http.specs.declared.request.RequestFault.TheVariants as head
 use Rattle.fd_json.specs.declared.refusal.Fault.{Fault}
@@ -34,8 +35,12 @@ use Rattle.fd_api.specs.declared.sessions.EndKind.TheVariants as kind
 use Rattle.fd_api.specs.Replies.{IsSent, refusal}
 use Rattle.fd_api.specs.Sessions.{MOST_REQUESTS, Runs, Serves, Served, Ends, SinkCause, is_last, is_faulted, Begins, IsSplit, IsBegun, IsDrained, AppendsThen}
 use Rattle.fd_api.specs.Turns.{PutsReply, Turned, Unturned, NoRequest, EndsAt, Silent, Turns, after_put}
-use Rattle.fd_api.proofs.InputSteps.{HasRead, HasSplit, leads_none, has_read_more, has_read_close, has_read_end, has_read_refused, has_read_limit}
+use Rattle.fd_api.proofs.InputSteps.{HasRead, HasSplit, leads_none, has_read_more, has_read_close, has_read_end, has_read_refused, has_read_limit, given_push, given_all}
 use Rattle.fd_api.proofs.SinkLemmas.{Appends-Keeps}
+
+-- the end at the most requests is no disk fault
+pub not_faulted : kind.Limit ≡ kind.DiskFault → ⊥
+not_faulted e = cc
 
 second_nil : (xs ys : List ℕ) → xs ++ ys ≡ [] → ys ≡ []
 second_nil [] ys e = e
@@ -127,6 +132,7 @@ module _ {S : Type 0} (write_gives : S → List Row → Result ℕ WriteRefusal 
     pub requests : List Request
     pub output : List ℕ
     pub read : HasRead left_old left_now [] inbox requests room
+    pub given : Given left_old left_now [] (λ given. Leads requests MOST_REQUESTS given room inbox)
     pub count : length requests + room ≡ MOST_REQUESTS
     pub run : Runs write_gives read_gives stand_gives old MOST_REQUESTS requests notes now output
     pub written : Appends taken_old taken_now output
@@ -137,6 +143,7 @@ module _ {S : Type 0} (write_gives : S → List Row → Result ℕ WriteRefusal 
     requests = [];
     output = [];
     read = nothing_read left;
+    given = record { bytes = []; consumed = Consumes-nil left; holds = (refl, refl) };
     count = refl;
     run = subst (λ (ns : List Note). Runs write_gives read_gives stand_gives store MOST_REQUESTS [] ns store []) (sym none) (refl, refl);
     written = Appends-nil taken;
@@ -163,6 +170,7 @@ module _ {S : Type 0} (write_gives : S → List Row → Result ℕ WriteRefusal 
           requests = so_far.requests ++ t.request ∷ [];
           output = so_far.output ++ t.bytes;
           read = has_read_more left_old left_mid left_now [] inbox_mid inbox so_far.requests room t.request so_far.read some t.arrives going.2;
+          given = given_push left_old left_mid left_now inbox_mid inbox so_far.requests room t.request so_far.given some t.given going.2;
           count = omega (arith, length-append so_far.requests (t.request ∷ []), so_far.count);
           run = with_turn left_old left_mid left_now inbox_mid inbox taken_old taken_mid taken_now before now_count old mid now notes_mid notes room None so_far some t;
           written = Appends-trans taken_old taken_mid taken_now so_far.output t.bytes so_far.written sent;
@@ -256,51 +264,60 @@ module _ {S : Type 0} (write_gives : S → List Row → Result ℕ WriteRefusal 
         written = (last, sent, Appends-trans taken_old taken_mid taken_now so_far.output last so_far.written more);
       }
 
-      short_count : (now_count ≡ mid_count) ⊎ Rose mid_count now_count → (now_count ≡ before) ⊎ Rose before now_count
-      short_count (inl kept) = inl (kept ∙ same_count)
-      short_count (inr rose) = inr (subst (λ (n : ℕ). Rose n now_count) same_count rose)
-
-      refused_ends : (f : RequestFault) (e : EndKind) → Arrives left_mid left_now inbox_mid inbox (Err f) → EndsAt taken_mid taken_now mid_count now_count f e → Finish e
-      refused_ends head.BadHead e arrives (inl (is, kept, last, sent, more)) = subst Finish (sym is) (dismissed head.BadHead fault.BadHead (split_refused head.BadHead arrives) last sent more, kept ∙ same_count)
-      refused_ends head.BadHead e arrives (inr (is, rose, last, sent, front)) = subst Finish (sym is) (unwritten fault.BadHead rose last sent front)
-      refused_ends head.NoLength e arrives (inl (is, kept, last, sent, more)) = subst Finish (sym is) (dismissed head.NoLength fault.NoLength (split_refused head.NoLength arrives) last sent more, kept ∙ same_count)
-      refused_ends head.NoLength e arrives (inr (is, rose, last, sent, front)) = subst Finish (sym is) (unwritten fault.NoLength rose last sent front)
-      refused_ends head.TooLarge e arrives (inl (is, kept, last, sent, more)) = subst Finish (sym is) (dismissed head.TooLarge fault.TooLarge (split_refused head.TooLarge arrives) last sent more, kept ∙ same_count)
-      refused_ends head.TooLarge e arrives (inr (is, rose, last, sent, front)) = subst Finish (sym is) (unwritten fault.TooLarge rose last sent front)
-      refused_ends head.Cut e arrives (is, s) =
+      refused_ends : (f : RequestFault) (e : EndKind) → Arrives left_mid left_now inbox_mid inbox (Err f) → AtReadFault f (Given left_mid left_now inbox_mid IsUnfinished)
+          → EndsAt taken_mid taken_now mid_count now_count f e → Finish e
+      refused_ends head.BadHead e arrives given (inl (is, kept, last, sent, more)) = subst Finish (sym is) (dismissed head.BadHead fault.BadHead (split_refused head.BadHead arrives) last sent more, kept ∙ same_count)
+      refused_ends head.BadHead e arrives given (inr (is, rose, last, sent, front)) = subst Finish (sym is) (unwritten fault.BadHead rose last sent front)
+      refused_ends head.NoLength e arrives given (inl (is, kept, last, sent, more)) = subst Finish (sym is) (dismissed head.NoLength fault.NoLength (split_refused head.NoLength arrives) last sent more, kept ∙ same_count)
+      refused_ends head.NoLength e arrives given (inr (is, rose, last, sent, front)) = subst Finish (sym is) (unwritten fault.NoLength rose last sent front)
+      refused_ends head.TooLarge e arrives given (inl (is, kept, last, sent, more)) = subst Finish (sym is) (dismissed head.TooLarge fault.TooLarge (split_refused head.TooLarge arrives) last sent more, kept ∙ same_count)
+      refused_ends head.TooLarge e arrives given (inr (is, rose, last, sent, front)) = subst Finish (sym is) (unwritten fault.TooLarge rose last sent front)
+      refused_ends head.Cut e arrives given (is, s) =
           subst Finish (sym is) (record { requests = so_far.requests; output = so_far.output; read = split_refused head.Cut arrives; run = run_so_far; written = silent s }, s.count ∙ same_count)
-      refused_ends head.ReadFault e arrives (is, s) =
-          subst Finish (sym is) (record { requests = so_far.requests; output = so_far.output; read = begins; run = run_so_far; written = silent s }, s.count ∙ same_count)
-      refused_ends head.NoMemory e arrives (is, s) =
+      refused_ends head.ReadFault e arrives given (is, s) =
+          subst Finish (sym is) (record { requests = so_far.requests; output = so_far.output; read = (begins, given_all left_old left_mid left_now inbox_mid so_far.requests room so_far.given some given); run = run_so_far; written = silent s }, s.count ∙ same_count)
+      refused_ends head.NoMemory e arrives given (is, Done, sent, kept) =
           subst Finish (sym is) (
             record {
               requests = so_far.requests;
               output = so_far.output;
               read = begins;
               run = run_so_far;
-              written = (s.taken.0, s.taken.1, Appends-trans taken_old taken_mid taken_now so_far.output _ so_far.written s.taken.2);
+              written = inl (Appends-trans taken_old taken_mid taken_now so_far.output _ so_far.written sent, kept ∙ same_count);
             },
-            short_count s.count,
+            inl (kept ∙ same_count),
+          )
+      refused_ends head.NoMemory e arrives given (is, Failed, front, rose) =
+          let up : Rose before now_count = subst (λ (n : ℕ). Rose n now_count) same_count rose in
+          subst Finish (sym is) (
+            record {
+              requests = so_far.requests;
+              output = so_far.output;
+              read = begins;
+              run = run_so_far;
+              written = inr (front.0, front.1, Appends-trans taken_old taken_mid taken_now so_far.output _ so_far.written front.2, up);
+            },
+            inr up,
           )
 
       ended : Arrives left_mid left_now inbox_mid inbox (Ok arrived.End) → Silent taken_mid taken_now mid_count now_count → Finish kind.Ended
       ended arrives s = (
-        (
-          record {
-            requests = so_far.requests;
-            output = so_far.output;
-            read = split_from left_old left_now inbox so_far.requests ends.ended (has_read_end left_old left_mid left_now [] inbox_mid inbox so_far.requests room so_far.read some arrives);
-            run = run_so_far;
-            written = silent s;
-          },
-          drained_from left_old left_mid left_now inbox_mid inbox so_far.requests room so_far.read arrives,
-        ),
+        record {
+          requests = so_far.requests;
+          output = so_far.output;
+          read = (
+            split_from left_old left_now inbox so_far.requests ends.ended (has_read_end left_old left_mid left_now [] inbox_mid inbox so_far.requests room so_far.read some arrives),
+            drained_from left_old left_mid left_now inbox_mid inbox so_far.requests room so_far.read arrives,
+          );
+          run = run_so_far;
+          written = silent s;
+        },
         s.count ∙ same_count,
       )
 
       how_ends : (e : EndKind) → NoRequest left_mid left_now inbox_mid inbox taken_mid taken_now mid_count now_count e → Finish e
       how_ends e (inl (is, arrives, s)) = subst Finish (sym is) (ended arrives s)
-      how_ends e (inr (f, arrives, ends)) = refused_ends f e arrives ends
+      how_ends e (inr (f, arrives, given, ends)) = refused_ends f e arrives given ends
 
     pub unturned_ends : (e : EndKind) → Unturned write_gives read_gives stand_gives left_mid left_now inbox_mid inbox taken_mid taken_now mid_count now_count mid now notes_mid notes (Some e) → Finish e
     unturned_ends e u = let same : u.kind ≡ e = cc in subst Finish same (how_ends (Some e) u u.kind u.how)

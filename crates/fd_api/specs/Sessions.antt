@@ -14,7 +14,7 @@ use Rattle.fd_http.specs.declared.replies.Response.{Response}
 use Rattle.fd_http.specs.declared.replies.Response.TheVariants as response
 use Rattle.fd_http.specs.Inputs.{End, ended, closed, limit, refused_as, Splits}
 use Rattle.fd_http.specs.Prefixes.{Leads}
-use Rattle.fd_http.specs.Remainders.{IfTold}
+use Rattle.fd_http.specs.Remainders.{IfTold, Given}
 use Rattle.fd_http.specs.Replies.{AppendsFront, reply_bytes}
 use Rattle.fd_json.specs.declared.refusal.Fault.{Fault}
 use Rattle.fd_json.specs.declared.refusal.Fault.TheVariants as fault
@@ -59,6 +59,11 @@ Begins told requests = MatchOption told ⊤ (λ bytes. (left : ℕ) × (after : 
 abbrev pub IsBegun : Option (List ℕ) → List Request → Type 0
 IsBegun told requests = Begins told requests ⊎ IsSplit told requests closed
 
+-- The bytes that the source gave, as an input of their own, split into these requests, and end with the last of them or
+-- inside another.
+abbrev pub AreAllGiven : Option (List ℕ) → Option (List ℕ) → List Request → Type 0
+AreAllGiven old new requests = Given old new [] (λ given. Splits given requests ended ⊎ Splits given requests (refused_as head.Cut))
+
 -- the output, and the one reply to a head that is refused
 abbrev pub AppendsThen : Option (List ℕ) → Option (List ℕ) → Fault → List ℕ → Type 0
 AppendsThen old new f output = (last : List ℕ) × IsSent true (refusal f) last × Appends old new (output ++ last)
@@ -71,10 +76,39 @@ AppendsPart old new output = AppendsFront old new output ⊎ (f : Fault) × (las
 abbrev pub AppendsUnlessFault : Option (List ℕ) → Option (List ℕ) → ℕ → ℕ → List ℕ → Type 0
 AppendsUnlessFault old new before now output = (Appends old new output × (now ≡ before)) ⊎ (AppendsFront old new output × Rose before now)
 
--- the output, and a front of the reply to want of memory
-abbrev pub AppendsThenShort : Option (List ℕ) → Option (List ℕ) → List ℕ → Type 0
-AppendsThenShort old new output =
-    (k : ℕ) × (k ≤ length (reply_bytes (response.Short true))) × Appends old new (output ++ take k (reply_bytes (response.Short true)))
+-- the output and the reply to want of memory, or a front of that where the sink's count rose
+abbrev pub AppendsThenShort : Option (List ℕ) → Option (List ℕ) → ℕ → ℕ → List ℕ → Type 0
+AppendsThenShort old new before now output =
+    (Appends old new (output ++ reply_bytes (response.Short true)) × (now ≡ before))
+    ⊎ ((k : ℕ) × (k ≤ length (reply_bytes (response.Short true))) × Appends old new (output ++ take k (reply_bytes (response.Short true))) × Rose before now)
+
+-- the requests that a session read, by its end
+abbrev pub ReadBy : Option (List ℕ) → Option (List ℕ) → EndKind → List Request → Type 0
+ReadBy left_old left_new kind.Ended requests = IsSplit left_old requests ended × IsDrained left_old left_new
+ReadBy left_old left_new kind.Closed requests = IsSplit left_old requests closed
+ReadBy left_old left_new kind.Limit requests = IsSplit left_old requests limit
+ReadBy left_old left_new kind.Cut requests = IsSplit left_old requests (refused_as head.Cut)
+ReadBy left_old left_new kind.BadHead requests = IsSplit left_old requests (refused_as head.BadHead)
+ReadBy left_old left_new kind.NoLength requests = IsSplit left_old requests (refused_as head.NoLength)
+ReadBy left_old left_new kind.TooLarge requests = IsSplit left_old requests (refused_as head.TooLarge)
+ReadBy left_old left_new kind.ReadFault requests = Begins left_old requests × AreAllGiven left_old left_new requests
+ReadBy left_old left_new kind.WriteFault requests = IsBegun left_old requests
+ReadBy left_old left_new kind.DiskFault requests = IsBegun left_old requests
+ReadBy left_old left_new kind.NoMemory requests = Begins left_old requests
+
+-- what the sink took of the output, by the end
+abbrev pub SentBy : Option (List ℕ) → Option (List ℕ) → ℕ → ℕ → EndKind → List ℕ → Type 0
+SentBy old new before now kind.Ended output = Appends old new output
+SentBy old new before now kind.Closed output = Appends old new output
+SentBy old new before now kind.Limit output = Appends old new output
+SentBy old new before now kind.Cut output = Appends old new output
+SentBy old new before now kind.BadHead output = AppendsThen old new fault.BadHead output
+SentBy old new before now kind.NoLength output = AppendsThen old new fault.NoLength output
+SentBy old new before now kind.TooLarge output = AppendsThen old new fault.TooLarge output
+SentBy old new before now kind.ReadFault output = Appends old new output
+SentBy old new before now kind.WriteFault output = AppendsPart old new output
+SentBy old new before now kind.DiskFault output = AppendsUnlessFault old new before now output
+SentBy old new before now kind.NoMemory output = AppendsThenShort old new before now output
 
 module _ {S : Type 0} (write_gives : S → List Row → Result ℕ WriteRefusal → S → Type 0) (read_gives : S → ℕ → Query → Result Seen ReadRefusal → S → Type 0) (stand_gives : S → Stand → S → Type 0) where
   -- one request: what handling it did, and the bytes sent for it
@@ -105,18 +139,7 @@ module _ {S : Type 0} (write_gives : S → List Row → Result ℕ WriteRefusal 
   -- What a session leaves, by its end: what the source told before, and tells now; what the sink had taken and has, and
   -- its counts of faults; the store before, the notes, and the store now.
   abbrev pub Ends : Option (List ℕ) → Option (List ℕ) → Option (List ℕ) → Option (List ℕ) → ℕ → ℕ → S → List Note → S → EndKind → Type 0
-  Ends left_old left_new taken_old taken_new before now old notes new kind.Ended =
-      Served (λ requests. IsSplit left_old requests ended) old notes new (Appends taken_old taken_new) × IsDrained left_old left_new
-  Ends left_old left_new taken_old taken_new before now old notes new kind.Closed = Served (λ requests. IsSplit left_old requests closed) old notes new (Appends taken_old taken_new)
-  Ends left_old left_new taken_old taken_new before now old notes new kind.Limit = Served (λ requests. IsSplit left_old requests limit) old notes new (Appends taken_old taken_new)
-  Ends left_old left_new taken_old taken_new before now old notes new kind.Cut = Served (λ requests. IsSplit left_old requests (refused_as head.Cut)) old notes new (Appends taken_old taken_new)
-  Ends left_old left_new taken_old taken_new before now old notes new kind.BadHead = Served (λ requests. IsSplit left_old requests (refused_as head.BadHead)) old notes new (AppendsThen taken_old taken_new fault.BadHead)
-  Ends left_old left_new taken_old taken_new before now old notes new kind.NoLength = Served (λ requests. IsSplit left_old requests (refused_as head.NoLength)) old notes new (AppendsThen taken_old taken_new fault.NoLength)
-  Ends left_old left_new taken_old taken_new before now old notes new kind.TooLarge = Served (λ requests. IsSplit left_old requests (refused_as head.TooLarge)) old notes new (AppendsThen taken_old taken_new fault.TooLarge)
-  Ends left_old left_new taken_old taken_new before now old notes new kind.ReadFault = Served (Begins left_old) old notes new (Appends taken_old taken_new)
-  Ends left_old left_new taken_old taken_new before now old notes new kind.WriteFault = Served (IsBegun left_old) old notes new (AppendsPart taken_old taken_new)
-  Ends left_old left_new taken_old taken_new before now old notes new kind.DiskFault = Served (IsBegun left_old) old notes new (AppendsUnlessFault taken_old taken_new before now)
-  Ends left_old left_new taken_old taken_new before now old notes new kind.NoMemory = Served (Begins left_old) old notes new (AppendsThenShort taken_old taken_new)
+  Ends left_old left_new taken_old taken_new before now old notes new end = Served (ReadBy left_old left_new end) old notes new (SentBy taken_old taken_new before now end)
 
 -- a read fault raised the source's count, and nothing else did
 abbrev pub SourceCause : ℕ → ℕ → EndKind → Type 0

@@ -13,7 +13,9 @@ use Rattle.fd_http.specs.declared.request.Arrived.TheVariants as arrived
 use Rattle.fd_http.specs.declared.request.RequestFault.{RequestFault}
 use Rattle.fd_http.specs.declared.request.RequestFault.TheVariants as head
 use Rattle.fd_http.specs.declared.replies.Response.TheVariants as response
-use Rattle.fd_http.specs.Arrivals.{Arrives}
+use Rattle.fd_http.specs.Arrivals.{Arrives, AtReadFault, IsUnfinished}
+use Rattle.fd_http.specs.Inputs.{Begins}
+use Rattle.fd_http.specs.Remainders.{Given}
 use Rattle.fd_http.specs.Replies.{AppendsFront, reply_bytes}
 use Rattle.fd_device.specs.declared.sink.Put.{Put}
 use Rattle.fd_device.specs.declared.sink.Put.TheVariants.{Done, Failed}
@@ -42,10 +44,9 @@ pub record Silent (old new : Option (List ℕ)) (before now : ℕ) : Type 0 wher
   pub taken : Keeps old new
   pub count : now ≡ before
 
--- a front of the reply to want of memory was sent
-pub record Short (old new : Option (List ℕ)) (before now : ℕ) : Type 0 where
-  pub taken : AppendsFront old new (reply_bytes (response.Short true))
-  pub count : (now ≡ before) ⊎ Rose before now
+-- the reply to want of memory was sent, or a front of it
+abbrev pub Short : Option (List ℕ) → Option (List ℕ) → ℕ → ℕ → Type 0
+Short old new before now = (put : Put) × PutsReply old new (reply_bytes (response.Short true)) put × PutCause before now put
 
 -- what is done where no request arrives
 abbrev pub EndsAt : Option (List ℕ) → Option (List ℕ) → ℕ → ℕ → RequestFault → EndKind → Type 0
@@ -69,7 +70,8 @@ after_reply closes note put = if is_faulted note then Some kind.DiskFault else a
 abbrev pub NoRequest : Option (List ℕ) → Option (List ℕ) → List ℕ → List ℕ → Option (List ℕ) → Option (List ℕ) → ℕ → ℕ → EndKind → Type 0
 NoRequest left_old left_new inbox_old inbox_new taken_old taken_new before now end =
     ((end ≡ kind.Ended) × Arrives left_old left_new inbox_old inbox_new (Ok arrived.End) × Silent taken_old taken_new before now)
-    ⊎ ((f : RequestFault) × Arrives left_old left_new inbox_old inbox_new (Err f) × EndsAt taken_old taken_new before now f end)
+    ⊎ ((f : RequestFault) × Arrives left_old left_new inbox_old inbox_new (Err f)
+    × AtReadFault f (Given left_old left_new inbox_old IsUnfinished) × EndsAt taken_old taken_new before now f end)
 
 module _ {S : Type 0} (write_gives : S → List Row → Result ℕ WriteRefusal → S → Type 0) (read_gives : S → ℕ → Query → Result Seen ReadRefusal → S → Type 0) (stand_gives : S → Stand → S → Type 0) where
   -- A request arrived, was handled and replied to, and its note was kept.
@@ -79,6 +81,7 @@ module _ {S : Type 0} (write_gives : S → List Row → Result ℕ WriteRefusal 
     pub bytes : List ℕ
     pub put : Put
     pub arrives : Arrives left_old left_new inbox_old inbox_new (Ok (arrived.One request))
+    pub given : Given left_old left_new inbox_old (λ given. Begins given request inbox_new)
     pub serves : Serves write_gives read_gives stand_gives request old note new (request.close || last || is_faulted note) bytes
     pub noted : notes_new ≡ notes_old ++ note ∷ []
     pub sent : PutsReply taken_old taken_new bytes put

@@ -208,7 +208,8 @@ fn decide_listed(
 }
 
 fn decide_list(alloc: Global, parameters: &[Pair], listing: Listing) -> Result<Demand, NoMemory>
-    ensures { IfOk result (AsksList parameters.now listing (last_value (codes "query") parameters.now)) }
+    ensures { IfOk result
+        (AsksList parameters.now listing (last_value (codes "query") parameters.now)) }
 {
     match last_value(parameters, "query") {
         None => decide_within(parameters, Question::List(listing, None)),
@@ -230,7 +231,8 @@ fn decide_summed(
 }
 
 fn decide_sum(alloc: Global, parameters: &[Pair], summing: Summing) -> Result<Demand, NoMemory>
-    ensures { IfOk result (AsksSum parameters.now summing (last_value (codes "query") parameters.now)) }
+    ensures { IfOk result
+        (AsksSum parameters.now summing (last_value (codes "query") parameters.now)) }
 {
     match last_value(parameters, "query") {
         None => Ok(Demand::Refused(Fault::NoQuery)),

@@ -80,7 +80,8 @@ fn not_allowed(alloc: Global, allow: Method) -> Response
 
 fn write<T: Store>(alloc: Global, store: &mut T, accepted: SmallBatch) -> Handled
     requires { T.has_failed store.old ≡ false }
-    ensures does { Does T.write_gives T.read_gives T.stand_gives (Demand.Write accepted) store.old result.note result.reply store.new }
+    ensures does { Does T.write_gives T.read_gives T.stand_gives
+        (Demand.Write accepted) store.old result.note result.reply store.new }
     ensures sendable { CanBeSent result.reply }
     ensures fault { result.note ≡ Note.Faulted → Rose (T.faults store.old) (T.faults store.new) }
     ensures healthy { result.note ≢ Note.Faulted → T.has_failed store.new ≡ false }
@@ -105,7 +106,8 @@ fn write<T: Store>(alloc: Global, store: &mut T, accepted: SmallBatch) -> Handle
 
 fn read<T: Store>(alloc: Global, store: &mut T, query: &Query, after: u64) -> Handled
     requires { T.has_failed store.old ≡ false }
-    ensures does { Does T.write_gives T.read_gives T.stand_gives (Demand.Read query.now after) store.old result.note result.reply store.new }
+    ensures does { Does T.write_gives T.read_gives T.stand_gives
+        (Demand.Read query.now after) store.old result.note result.reply store.new }
     ensures sendable { CanBeSent result.reply }
     ensures note { result.note ≢ Note.Faulted }
     ensures healthy { T.has_failed store.new ≡ false }
@@ -126,7 +128,8 @@ fn read<T: Store>(alloc: Global, store: &mut T, query: &Query, after: u64) -> Ha
 
 fn stand<T: Store>(alloc: Global, store: &mut T) -> Handled
     requires { T.has_failed store.old ≡ false }
-    ensures does { Does T.write_gives T.read_gives T.stand_gives Demand.Stand store.old result.note result.reply store.new }
+    ensures does { Does T.write_gives T.read_gives T.stand_gives
+        Demand.Stand store.old result.note result.reply store.new }
     ensures sendable { CanBeSent result.reply }
     ensures note { result.note ≢ Note.Faulted }
     ensures healthy { T.has_failed store.new ≡ false }
@@ -146,7 +149,9 @@ fn stand<T: Store>(alloc: Global, store: &mut T) -> Handled
 /// Does what was asked, where there was memory to decide that.
 fn carry_out<T: Store>(alloc: Global, store: &mut T, asked: Result<Demand, NoMemory>) -> Handled
     requires { T.has_failed store.old ≡ false }
-    ensures handles { (request : Request) → IfOk asked (Asks request) → Handles T.write_gives T.read_gives T.stand_gives request store.old result.note result.reply store.new }
+    ensures handles { (request : Request) → IfOk asked (Asks request)
+        → Handles T.write_gives T.read_gives T.stand_gives
+        request store.old result.note result.reply store.new }
     ensures sendable { CanBeSent result.reply }
     ensures fault { result.note ≡ Note.Faulted → Rose (T.faults store.old) (T.faults store.new) }
     ensures healthy { result.note ≢ Note.Faulted → T.has_failed store.new ≡ false }
@@ -175,7 +180,8 @@ fn carry_out<T: Store>(alloc: Global, store: &mut T, asked: Result<Demand, NoMem
 /// to by `Short`.
 pub fn handle<T: Store>(alloc: Global, store: &mut T, request: Request) -> Handled
     requires { T.has_failed store.old ≡ false }
-    ensures handles { Handles T.write_gives T.read_gives T.stand_gives request store.old result.note result.reply store.new }
+    ensures handles { Handles T.write_gives T.read_gives T.stand_gives
+        request store.old result.note result.reply store.new }
     ensures sendable { CanBeSent result.reply }
     ensures fault { result.note ≡ Note.Faulted → Rose (T.faults store.old) (T.faults store.new) }
     ensures healthy { result.note ≢ Note.Faulted → T.has_failed store.new ≡ false }

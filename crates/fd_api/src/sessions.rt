@@ -1,9 +1,10 @@
-ghost use Rattle.std.specs.Prelude.{◌≡◌, ◌||◌, true, false, ℕ, List, IsNone, unwrap_or};
+ghost use Rattle.std.specs.Prelude.{◌≡◌, ◌≢◌, ◌||◌, true, false, ℕ, List, unwrap_or};
 ghost use Rattle.fd_lists.specs.Counts.{Rose};
 ghost use Rattle.fd_device.specs.Streams.{PutCause};
 ghost use Rattle.fd_http.specs.Replies.{CanBeSent, reply_bytes};
 ghost use Rattle.fd_api.specs.Replies.{IsSent, closing};
 ghost use Rattle.fd_api.specs.Sessions.{Serves, Ends, SourceCause, SinkCause, StoreCause, is_faulted};
+ghost use Rattle.fd_api.specs.Accounts.{SessionRan};
 ghost use Rattle.fd_api.specs.Turns.{PutsReply, Dismisses, Short, EndsAt, Turns, after_reply};
 
 use crate::handler::{handle, refuse};
@@ -67,7 +68,8 @@ fn closing(reply: Response, close: bool) -> Response
 
 /// Sends the reply to want of memory, which takes none.
 fn send_short<K: Sink>(alloc: Global, out: &mut K, close: bool) -> Put
-    ensures sent { PutsReply (K.taken out.old) (K.taken out.new) (reply_bytes (Response.Short close)) result }
+    ensures sent { PutsReply (K.taken out.old) (K.taken out.new)
+        (reply_bytes (Response.Short close)) result }
     ensures cause { PutCause (K.faults out.old) (K.faults out.new) result }
 {
     match reply(alloc, out, &Response::Short { close }) {
@@ -79,7 +81,8 @@ fn send_short<K: Sink>(alloc: Global, out: &mut K, close: bool) -> Put
 /// Sends a reply, or the one to want of memory in its place.
 fn send<K: Sink>(alloc: Global, out: &mut K, response: Response, close: bool) -> Put
     requires { CanBeSent response }
-    ensures sent { (bytes : List ℕ) × IsSent close response bytes × PutsReply (K.taken out.old) (K.taken out.new) bytes result }
+    ensures sent { (bytes : List ℕ) × IsSent close response bytes
+        × PutsReply (K.taken out.old) (K.taken out.new) bytes result }
     ensures cause { PutCause (K.faults out.old) (K.faults out.new) result }
 {
     match reply(alloc, out, &closing(response, close)) {
@@ -91,7 +94,8 @@ fn send<K: Sink>(alloc: Global, out: &mut K, response: Response, close: bool) ->
 
 /// Replies to a head that is refused.
 fn dismiss<K: Sink>(alloc: Global, out: &mut K, fault: Fault, end: EndKind) -> EndKind
-    ensures { Dismisses (K.taken out.old) (K.taken out.new) (K.faults out.old) (K.faults out.new) fault end result }
+    ensures { Dismisses (K.taken out.old) (K.taken out.new)
+        (K.faults out.old) (K.faults out.new) fault end result }
 {
     match send(alloc, out, refuse(alloc, fault), true) {
         Put::Done => end,
@@ -110,7 +114,8 @@ fn give_up<K: Sink>(alloc: Global, out: &mut K) -> EndKind
 
 /// Ends where no request arrives.
 fn end_at<K: Sink>(alloc: Global, out: &mut K, fault: RequestFault) -> EndKind
-    ensures { EndsAt (K.taken out.old) (K.taken out.new) (K.faults out.old) (K.faults out.new) fault result }
+    ensures { EndsAt (K.taken out.old) (K.taken out.new)
+        (K.faults out.old) (K.faults out.new) fault result }
 {
     match fault {
         RequestFault::BadHead => dismiss(alloc, out, Fault::BadHead, EndKind::BadHead),
@@ -145,7 +150,8 @@ fn answer<T: Store, K: Sink>(
     last: bool,
 ) -> (Note, Put)
     requires { T.has_failed store.old ≡ false }
-    ensures served { (bytes : List ℕ) × Serves T.write_gives T.read_gives T.stand_gives request store.old result.0 store.new (request.close || last || is_faulted result.0) bytes
+    ensures served { (bytes : List ℕ) × Serves T.write_gives T.read_gives T.stand_gives
+        request store.old result.0 store.new (request.close || last || is_faulted result.0) bytes
         × PutsReply (K.taken out.old) (K.taken out.new) bytes result.1 }
     ensures sink { PutCause (K.faults out.old) (K.faults out.new) result.1 }
     ensures fault { is_faulted result.0 ≡ true → Rose (T.faults store.old) (T.faults store.new) }
@@ -185,10 +191,16 @@ fn turn<T: Store, S: Source, K: Sink>(
     last: bool,
 ) -> Option<EndKind>
     requires { T.has_failed store.old ≡ false }
-    ensures turned { Turns T.write_gives T.read_gives T.stand_gives (S.left input.old) (S.left input.new) inbox.old inbox.new (K.taken out.old) (K.taken out.new) (K.faults out.old) (K.faults out.new) store.old store.new notes.old.items notes.new.items last result }
-    ensures source { SourceCause (S.faults input.old) (S.faults input.new) (unwrap_or result EndKind.Limit) }
-    ensures disk { StoreCause (T.faults store.old) (T.faults store.new) (unwrap_or result EndKind.Limit) }
-    ensures healthy { IsNone result → T.has_failed store.new ≡ false }
+    ensures turned { Turns T.write_gives T.read_gives T.stand_gives
+        (S.left input.old) (S.left input.new) inbox.old inbox.new
+        (K.taken out.old) (K.taken out.new) (K.faults out.old) (K.faults out.new)
+        store.old store.new notes.old.items notes.new.items last result }
+    ensures source { SourceCause (S.faults input.old) (S.faults input.new)
+        (unwrap_or result EndKind.Limit) }
+    ensures disk { StoreCause (T.faults store.old) (T.faults store.new)
+        (unwrap_or result EndKind.Limit) }
+    ensures healthy { unwrap_or result EndKind.Limit ≢ EndKind.DiskFault
+        → T.has_failed store.new ≡ false }
 {
     if notes.reserve(1).is_err() {
         return Some(give_up(alloc, out));
@@ -205,18 +217,21 @@ fn turn<T: Store, S: Source, K: Sink>(
     }
 }
 
-/// Handles the requests of a source in order, and writes each reply before it reads on.
-pub fn session<T: Store, S: Source, K: Sink>(
+/// The turns of a session.
+fn serve<T: Store, S: Source, K: Sink>(
     alloc: Global,
     store: &mut T,
     input: &mut S,
     out: &mut K,
 ) -> SessionEnd
     requires { T.has_failed store.old ≡ false }
-    ensures ends { Ends T.write_gives T.read_gives T.stand_gives (S.left input.old) (S.left input.new) (K.taken out.old) (K.taken out.new) (K.faults out.old) (K.faults out.new) store.old result.notes store.new result.end }
+    ensures ends { Ends T.write_gives T.read_gives T.stand_gives
+        (S.left input.old) (S.left input.new) (K.taken out.old) (K.taken out.new)
+        (K.faults out.old) (K.faults out.new) store.old result.notes store.new result.end }
     ensures source { SourceCause (S.faults input.old) (S.faults input.new) result.end }
     ensures sink { SinkCause (K.faults out.old) (K.faults out.new) result.end }
     ensures disk { StoreCause (T.faults store.old) (T.faults store.new) result.end }
+    ensures healthy { result.end ≢ EndKind.DiskFault → T.has_failed store.new ≡ false }
 {
     let mut notes = RoomyList::new(alloc);
     let mut inbox = match Inbox::new(alloc) {
@@ -241,4 +256,31 @@ pub fn session<T: Store, S: Source, K: Sink>(
         end: EndKind::Limit,
         notes: notes.into_items(),
     }
+}
+
+/// Handles the requests of a source in order, and writes each reply before it reads on.
+///
+/// By what any store tells of its calls, the history only grows, what was written through the store
+/// gains exactly the batches of the notes, in order, and each note with its reply fits the history
+/// in the end.
+pub fn session<T: Store, S: Source, K: Sink>(
+    alloc: Global,
+    store: &mut T,
+    input: &mut S,
+    out: &mut K,
+) -> SessionEnd
+    requires { T.has_failed store.old ≡ false }
+    ensures ends { Ends T.write_gives T.read_gives T.stand_gives
+        (S.left input.old) (S.left input.new) (K.taken out.old) (K.taken out.new)
+        (K.faults out.old) (K.faults out.new) store.old result.notes store.new result.end }
+    ensures source { SourceCause (S.faults input.old) (S.faults input.new) result.end }
+    ensures sink { SinkCause (K.faults out.old) (K.faults out.new) result.end }
+    ensures disk { StoreCause (T.faults store.old) (T.faults store.new) result.end }
+    ensures healthy { result.end ≢ EndKind.DiskFault → T.has_failed store.new ≡ false }
+    ensures law { SessionRan
+        (S.left input.old) (S.left input.new) (K.taken out.old) (K.taken out.new)
+        (K.faults out.old) (K.faults out.new)
+        (T.sees store.old) result.notes (T.sees store.new) result.end }
+{
+    serve(alloc, store, input, out)
 }

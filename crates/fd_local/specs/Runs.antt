@@ -7,6 +7,7 @@ use Rattle.fd_http.specs.Replies.{AppendsFront}
 use Rattle.fd_api.specs.declared.note.Note.{Note}
 use Rattle.fd_api.specs.declared.sessions.EndKind.{EndKind}
 use Rattle.fd_api.specs.declared.sessions.EndKind.TheVariants.{Ended, Closed, Limit, Cut, BadHead, NoLength, TooLarge, ReadFault, WriteFault, DiskFault, NoMemory}
+use Rattle.fd_api.specs.Alone.{AloneSessionRan}
 use Rattle.fd_api.specs.Sessions.{Ends, SourceCause, SinkCause}
 
 -- the words of a session
@@ -51,10 +52,12 @@ abbrev pub Tells : Option (List ℕ) → Option (List ℕ) → ℕ → ℕ → L
 Tells old new before now text = (Appends old new text × (now ≡ before)) ⊎ (AppendsFront old new text × Rose before now)
 
 -- The run of a session from the history without batches: there are an end, notes and a history with which it meets what
--- a session leaves over a history that nobody else writes.
+-- a session leaves over a history that nobody else writes. The history is exactly the batches of the notes, numbered from
+-- 1, and each note's numbers are exact.
 pub record RunsSession (left_old left_new taken_old taken_new : Option (List ℕ)) (reads_before reads_now writes_before writes_now : ℕ) (end : EndKind) : Type 0 where
   pub notes : List Note
   pub history : History
   pub ends : Ends Writes Reads Stands left_old left_new taken_old taken_new writes_before writes_now [] notes history end
+  pub ran : AloneSessionRan left_old left_new taken_old taken_new writes_before writes_now [] notes history end
   pub source : SourceCause reads_before reads_now end
   pub sink : SinkCause writes_before writes_now end

@@ -1,6 +1,6 @@
 use Rattle.std.proofs.Common.{◌≡◌, ◌-◌, false}
 use Rattle.fd_api.proofs.SessionSteps.{SoFar}
-use Rattle.fd_api.proofs.sessions.session.Given as goal
+use Rattle.fd_api.proofs.sessions.serve.Given as goal
 
 abbrev pub invariant-loop-served : goal.invariant-loop-served
 invariant-loop-served g l = record {

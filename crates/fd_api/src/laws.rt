@@ -1,0 +1,33 @@
+ghost use Rattle.std.specs.Prelude.{ℕ, List, Option};
+ghost use Rattle.fd_http.specs.declared.request.Request.{Request};
+ghost use Rattle.fd_api.specs.declared.note.Note.{Note};
+ghost use Rattle.fd_api.specs.declared.sessions.EndKind.{EndKind};
+ghost use Rattle.fd_api.specs.Sessions.{Runs, Ends};
+ghost use Rattle.fd_api.specs.Accounts.{Ran};
+ghost use Rattle.fd_api.specs.Alone.{AloneRan, AloneSessionRan};
+ghost use Rattle.fd_kinds.specs.History.{History, Writes, Reads, Stands};
+
+use fd_kinds::Store;
+
+/// What a run of requests tells of any store: its history only grows, what was written through
+/// it gains exactly the batches of the notes, and each note fits the history in the end.
+pub fn run_laws<T: Store>(_store: &T)
+    ensures { (old : T) → (room : ℕ) → (requests : List Request) → (notes : List Note) → (new : T)
+        → (output : List ℕ)
+        → Runs T.write_gives T.read_gives T.stand_gives old room requests notes new output
+        → Ran (T.sees old) room requests notes (T.sees new) output }
+{}
+
+/// What a session tells of a store that nobody else writes: its history gains exactly the batches
+/// of the notes, with the numbers behind it, and each note's numbers are exact.
+pub fn alone_laws()
+    ensures runs { (old : History) → (room : ℕ) → (requests : List Request) → (notes : List Note)
+        → (new : History) → (output : List ℕ)
+        → Runs Writes Reads Stands old room requests notes new output
+        → AloneRan old room requests notes new output }
+    ensures session { (left_old left_new taken_old taken_new : Option (List ℕ)) → (before now : ℕ)
+        → (old : History) → (notes : List Note) → (new : History) → (end : EndKind)
+        → Ends Writes Reads Stands
+            left_old left_new taken_old taken_new before now old notes new end
+        → AloneSessionRan left_old left_new taken_old taken_new before now old notes new end }
+{}
