@@ -1,5 +1,5 @@
 #!/usr/bin/env python3
-"""Makes the stored run of crates/api_examples from the examples of docs/API.md.
+"""Makes the stored run of crates/run_api_examples from the examples of docs/API.md.
 
 usage: tools/api_examples.py [--write]
     without --write it only says whether the stored run is that of the examples
@@ -12,9 +12,8 @@ session, in their order, and the last one ends it.
 import re
 import sys
 
-from program import ROOT, help_asked
-
-FOLDER = ROOT / 'crates/api_examples'
+ROOT = pathlib.Path(__file__).resolve().parent.parent
+FOLDER = ROOT / 'crates/run_api_examples'
 REASONS = {
     200: 'OK', 400: 'Bad Request', 404: 'Not Found', 405: 'Method Not Allowed', 409: 'Conflict',
     411: 'Length Required', 413: 'Content Too Large', 422: 'Unprocessable Content', 503: 'Service Unavailable',

@@ -4,7 +4,7 @@
 usage: tools/plain_answers.py [PROGRAM [ROUNDS [SEED]]]
        tools/plain_answers.py --stored [--write]
     PROGRAM: default crates/frostd/out/frostd, made by `rt run`; ROUNDS: default 40; SEED: default 1
-    --stored says whether the stored run of crates/query_cases is one of these sessions with the replies
+    --stored says whether the stored run of crates/run_query_cases is one of these sessions with the replies
     that the list of rows gives, and with --write makes it
 
 Each round makes a session of some writes of made profiles (several sample types, stacks and samples,
@@ -243,7 +243,7 @@ def stored(write):
     requests, replies = session_of(random.Random(7), 40)
     same = True
     for name, wanted in (('stdin', b''.join(requests)), ('stdout', b''.join(replies))):
-        path = ROOT / 'crates/query_cases' / name
+        path = ROOT / 'crates/run_query_cases' / name
         if write:
             path.write_bytes(wanted)
         same = same and path.read_bytes() == wanted
