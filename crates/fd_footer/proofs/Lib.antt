@@ -4,11 +4,9 @@ pub mod Extent
 pub mod Injectivity
 pub mod Legality
 pub mod Loops
-pub mod MissingColumns
-pub mod NumberWidths
-pub mod Places
-pub mod Roundtrips
-pub mod ShapeLaws
-pub mod TableColumns
+pub mod Shaped
+pub mod Short
+pub mod Three
+pub mod Told
 pub mod Utf8
 pub mod Values

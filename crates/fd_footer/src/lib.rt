@@ -30,9 +30,7 @@ mod reader;
 mod schema;
 mod shape;
 mod table;
-#[cfg(test)]
-mod tests;
-mod writer;
+mod writing;
 
 pub use chunks::has_dictionary;
 pub use fault::FooterFault;

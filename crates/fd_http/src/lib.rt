@@ -31,5 +31,3 @@ pub use laws::split_laws;
 pub use replies::{Method, Response, SendFault, reply};
 pub use request::{Arrived, Request, RequestFault};
 
-#[cfg(test)]
-mod tests;

@@ -13,9 +13,7 @@ mod memory;
 mod packer;
 mod runs;
 mod stretch;
-#[cfg(test)]
-mod tests;
-mod unpacker;
+mod unpacking;
 
 pub use fault::HybridFault;
 pub use items::{Bytes, Items, Values};

@@ -7,8 +7,6 @@ mod fault;
 mod refusal;
 mod refusal_text;
 mod shape;
-#[cfg(test)]
-mod tests;
 mod texts;
 mod writer;
 

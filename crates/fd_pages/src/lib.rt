@@ -18,9 +18,7 @@ mod header;
 mod laws;
 mod levels;
 mod plain;
-mod reader;
-#[cfg(test)]
-mod tests;
+mod reading;
 mod values;
 mod writer;
 

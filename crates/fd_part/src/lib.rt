@@ -14,8 +14,6 @@
 mod batch_columns;
 mod batch_sizes;
 mod part;
-mod sealed_range;
-#[cfg(test)]
-mod tests;
+mod sealed;
 
 pub use part::Part;

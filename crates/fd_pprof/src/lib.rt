@@ -24,8 +24,6 @@ mod profile_survey;
 mod reader;
 mod sizes;
 mod tables;
-#[cfg(test)]
-mod tests;
 mod texts;
 mod winners;
 

@@ -18,9 +18,7 @@ mod rows;
 mod series;
 mod sized_series;
 mod sizes;
-mod sorter;
-#[cfg(test)]
-mod tests;
+mod sorted;
 
 pub use body::batch;
 pub use faults::{BatchFault, LabelFault};

@@ -12,9 +12,7 @@ mod braces;
 mod faults;
 mod kind;
 mod reader;
-mod selectors;
-#[cfg(test)]
-mod tests;
+mod reading;
 mod times;
 
 pub use faults::SelectFault;

@@ -8,9 +8,7 @@ mod kind;
 mod laws;
 mod memory;
 mod numbers;
-mod reader;
-#[cfg(test)]
-mod tests;
+mod reading;
 mod tree;
 mod writer;
 

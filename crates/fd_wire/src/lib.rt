@@ -18,8 +18,6 @@ mod fault;
 mod field;
 mod list;
 mod numbers;
-#[cfg(test)]
-mod tests;
 
 pub use fault::WireFault;
 pub use field::{Field, WireValue};

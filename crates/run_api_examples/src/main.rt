@@ -1,5 +1,5 @@
-//! Runs the session of the examples of the HTTP interface's document: its requests come in, and the
-//! replies that the document names must come out.
+//! Runs the session of the examples of the HTTP interface's document: its requests come in, and
+//! the replies that the document names must come out.
 #![tactic(auto)]
 
 use fd_program::program;

@@ -1,5 +1,5 @@
-//! Writes the file of a block: the requests of one session come in, and the Parquet file of the rows
-//! that they wrote goes out. The replies are thrown away.
+//! Writes the file of a block: the requests of one session come in, and the Parquet file of the
+//! rows that they wrote goes out. The replies are thrown away.
 //!
 //! | Status | Comes |
 //! |---|---|

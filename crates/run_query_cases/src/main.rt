@@ -1,5 +1,5 @@
-//! Runs a session of many writes and queries of each kind: its requests come in, and the replies that
-//! a plain list of rows gives must come out.
+//! Runs a session of many writes and queries of each kind: its requests come in, and the replies
+//! that a plain list of rows gives must come out.
 #![tactic(auto)]
 
 use fd_program::program;

@@ -1,5 +1,0 @@
-use Rattle.std.proofs.Common.{ℕ, ◌^◌, ◌<◌, get_or}
-use Rattle.fd_hybrid.proofs.tests.fit.Given as goal
-
-abbrev pub invariant-loop-value : goal.invariant-loop-value
-invariant-loop-value l = (k d : ℕ) → k < l.value-index → get_or l.values k d < 2 ^ l.width

@@ -1,7 +1,0 @@
-//! Worked examples over the whole program: the words, the input and its faults, and what comes out.
-#![tactic(auto)]
-
-#[cfg(test)]
-mod sealed_parts;
-#[cfg(test)]
-mod tests;
