@@ -7,6 +7,7 @@ use crate::part::ColumnPart;
 use crate::table::Table;
 use crate::table_builder::{finished_table, new_table, push_row};
 use crate::texts::row_is_utf8;
+use fd_dictionary::DictionaryBuilder;
 use fd_kinds::{NoMemory, Numbered, Row};
 use std::alloc::Global;
 use std::marker::Model;

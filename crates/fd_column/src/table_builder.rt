@@ -5,7 +5,8 @@ ghost use Rattle.fd_column.specs.Tables.{IsTableOf, KindsGrowBy, WholesGrowBy, G
 
 use crate::label_columns::{finished, with_labels};
 use crate::stacks::spelled;
-use crate::table::{Kinds, Table, Wholes};
+use crate::table::{Kinds, LabelColumn, Table, Wholes};
+use fd_dictionary::{Dictionary, DictionaryBuilder};
 use fd_kinds::{Items, Labels, NoMemory, Row, Stack};
 use std::alloc::Global;
 use std::mem;
@@ -84,7 +85,7 @@ fn push_labels(
 
 /// Adds a row. A frame of 2^32 bytes or more wants memory. After want of memory the columns are of
 /// no use.
-pub fn push_row(table: &mut Table<Growing>, number: u64, row: &Row) -> Result<(), NoMemory>
+pub fn push_row(table: &mut Table<DictionaryBuilder>, number: u64, row: &Row) -> Result<(), NoMemory>
     ensures grows { OnOk result (
         GrowsBy (record { number = number; row = row.now }) table.old table.new) }
     ensures short { OnOk result (AreShort row.now.stack) }

@@ -4,9 +4,11 @@ pub mod Extent
 pub mod Injectivity
 pub mod Legality
 pub mod Loops
-pub mod Shaped
-pub mod Short
-pub mod Three
-pub mod Told
+pub mod MissingColumns
+pub mod NumberWidths
+pub mod Places
+pub mod Roundtrips
+pub mod ShapeLaws
+pub mod TableColumns
 pub mod Utf8
 pub mod Values

@@ -30,7 +30,7 @@ mod reader;
 mod schema;
 mod shape;
 mod table;
-mod writing;
+mod writer;
 
 pub use chunks::has_dictionary;
 pub use fault::FooterFault;

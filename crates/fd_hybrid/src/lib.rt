@@ -13,7 +13,7 @@ mod memory;
 mod packer;
 mod runs;
 mod stretch;
-mod unpacking;
+mod unpacker;
 
 pub use fault::HybridFault;
 pub use items::{Bytes, Items, Values};

@@ -18,7 +18,7 @@ mod header;
 mod laws;
 mod levels;
 mod plain;
-mod reading;
+mod reader;
 mod values;
 mod writer;
 

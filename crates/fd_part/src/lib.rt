@@ -14,6 +14,6 @@
 mod batch_columns;
 mod batch_sizes;
 mod part;
-mod sealed;
+mod sealed_range;
 
 pub use part::Part;

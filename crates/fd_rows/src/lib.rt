@@ -18,7 +18,7 @@ mod rows;
 mod series;
 mod sized_series;
 mod sizes;
-mod sorted;
+mod sorter;
 
 pub use body::batch;
 pub use faults::{BatchFault, LabelFault};

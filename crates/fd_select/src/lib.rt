@@ -12,7 +12,7 @@ mod braces;
 mod faults;
 mod kind;
 mod reader;
-mod reading;
+mod selectors;
 mod times;
 
 pub use faults::SelectFault;

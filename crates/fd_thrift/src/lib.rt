@@ -8,7 +8,7 @@ mod kind;
 mod laws;
 mod memory;
 mod numbers;
-mod reading;
+mod reader;
 mod tree;
 mod writer;
 
