@@ -1,6 +1,6 @@
 -- How many loose parts were picked.
 use Rattle.std.specs.Prelude.{◌≡◌, ◌≢◌, ◌<◌, List, [], length, map}
-use Rattle.std.proofs.Common.{arith, ap, sym, ◌∙◌, ℕ}
+use Rattle.std.proofs.Common.{arith, ap, sym, ◌∙◌}
 use Rattle.std.proofs.lemmas.List.{length-map}
 use Rattle.fd_kinds.specs.Parts.{PartMeaning}
 

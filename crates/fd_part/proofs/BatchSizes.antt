@@ -1,5 +1,5 @@
 -- The bytes of the rows of each number, one row after another.
-use Rattle.std.specs.Prelude.{◌≡◌, ℕ, ◌+◌, ◌-◌, ◌≤◌, ◌<◌, ◌^◌, Bool, true, false, if◌then◌else◌, List, [], ◌∷◌, ◌++◌, take, drop, filter, min, sum_by, unwrap_or, Some, None, Option, slice_get, ◌==◌, ◌↔◌, IsTrue, nat_le, length, refl}
+use Rattle.std.specs.Prelude.{◌≡◌, ℕ, ◌+◌, ◌-◌, ◌≤◌, ◌<◌, ◌^◌, Bool, true, false, if◌then◌else◌, List, [], ◌∷◌, ◌++◌, take, drop, filter, min, sum_by, unwrap_or, Some, Option, slice_get, ◌==◌, ◌↔◌, IsTrue, nat_le, length, refl}
 use Rattle.std.proofs.Common.{arith, ap, sym, ◌∙◌, subst, cond, nat_cmp, true≢false}
 use Rattle.std.specs.BTreeMap.{BTreeMap, get, is_at}
 use Rattle.std.specs.Cmp.{unsigned_tied}
@@ -10,10 +10,10 @@ use Rattle.std.proofs.lemmas.Option.{slice_get_within, get_or_from_slice_get}
 use Rattle.fd_kinds.specs.declared.row.Row.{Row}
 use Rattle.fd_kinds.specs.declared.row.Numbered.{Numbered}
 use Rattle.fd_kinds.specs.RowSize.{row_size}
-use Rattle.fd_kinds.specs.Parts.{with_number, loose_part}
+use Rattle.fd_kinds.specs.Parts.{with_number}
 use Rattle.fd_kinds.proofs.PartLaws.{sum_by_with_number}
 use Rattle.fd_shelf.specs.Books.{MOST_BATCH, has_number}
-use Rattle.fd_part.specs.Sizes.{bytes_of, bytes_at, AreSmallBatches, HasLargeBatch, IsSize, AreSizes}
+use Rattle.fd_part.specs.Sizes.{bytes_of, bytes_at, AreSmallBatches, HasLargeBatch, AreSizes}
 
 bytes_append : (number : ℕ) (xs ys : List Numbered) → bytes_at number (xs ++ ys) ≡ bytes_at number xs + bytes_at number ys
 bytes_append number xs ys =

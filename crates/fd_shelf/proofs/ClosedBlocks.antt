@@ -1,10 +1,10 @@
 -- What closed blocks keep.
 use Rattle.std.specs.Prelude.{◌≡◌, ℕ, zero, suc, Bool, true, false, if◌then◌else◌, List, [], ◌∷◌, ◌++◌, Some, slice_get}
-use Rattle.std.proofs.Common.{ap, sym, ◌∙◌, subst}
+use Rattle.std.proofs.Common.{ap, ◌∙◌}
 use Rattle.std.proofs.lemmas.Option.{none-some}
 use Rattle.fd_kinds.specs.Parts.{PartMeaning}
 use Rattle.fd_shelf.specs.Books.{Book}
-use Rattle.fd_shelf.specs.Marks.{IsClosedBlock, KeepsClosed}
+use Rattle.fd_shelf.specs.Marks.{KeepsClosed}
 use Rattle.fd_shelf.specs.Steps.{is_full}
 
 -- the same closed blocks

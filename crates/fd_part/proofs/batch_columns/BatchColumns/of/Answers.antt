@@ -1,4 +1,4 @@
-use Rattle.std.proofs.Common.{◌∙◌, ◌≡◌, ap, sym}
+use Rattle.std.proofs.Common.{◌∙◌, ap, sym}
 use Rattle.fd_kinds.specs.Parts.{rows_of}
 use Rattle.fd_kinds.proofs.PartLaws.{rows_of_with_number}
 use Rattle.fd_part.specs.Sizes.{bytes_of}
