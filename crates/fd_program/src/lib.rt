@@ -5,6 +5,7 @@ use fd_device::{Sink, StdSink, StdSource};
 use fd_kinds::{NoMemory, Text, Texts};
 use fd_local::run;
 use std::env::{self, Env};
+use std::io::ErrorKind;
 use std::io::{Read, Write};
 
 const NO_MEMORY: u8 = 7;
@@ -12,11 +13,17 @@ const NO_MEMORY: u8 = 7;
 /// The words of the command line, without the program's own name.
 fn words_of<R: Env + AllocGlobal>(rt: &R) -> Result<Texts, NoMemory> {
     let mut words = Texts::new(rt.alloc());
-    let Ok(arguments) = env::args(rt) else {
-        return Err(NoMemory);
-    };
-    for word in arguments.skip(1) {
-        words.push(Text::from_string(word))?;
+    match env::args(rt) {
+        Ok(arguments) => {
+            for word in arguments.skip(1) {
+                words.push(Text::from_string(word))?;
+            }
+        }
+        Err(error) => {
+            if error.kind() != ErrorKind::InvalidData {
+                return Err(NoMemory);
+            }
+        }
     }
     Ok(words)
 }

@@ -66,11 +66,15 @@ fn rows_stand_in_columns_with_their_number(rt: HostRuntime) -> Result<(), Fail> 
     Ok(())
 }
 
+/// The bytes of the rows of the table: texts, labels, frames and numbers, and lengths before texts.
+const TABLE: u64 = (5 * 4 + 20 + 4 + 13 + (4 + 8 + 8) + 4 + 32)
+    + (5 * 4 + 20 + 4 + 13 + 4 + (4 + 10 + 8) + 32);
+
 /// Whether a part is sealed, with the range, the two rows and the file of the table.
 fn is_sealed(part: &Part) -> bool {
     part.sealed()
         && (part.lo(), part.hi()) == (6, 9)
-        && (part.rows(), part.bytes()) == (2, 220)
+        && (part.rows(), part.bytes()) == (2, TABLE)
         && part.file() == Some(FILE.as_slice())
 }
 
