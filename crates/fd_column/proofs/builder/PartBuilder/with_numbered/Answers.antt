@@ -4,7 +4,7 @@ use Rattle.fd_column.specs.Tables.{IsTableOf, AreHeld, rows_of_table}
 use Rattle.fd_column.proofs.TableLaws.{table_grows, held_more, growing_from, rows_back}
 use Rattle.fd_column.proofs.builder.PartBuilder.with_numbered.Goals as goal
 
-added : (c : goal.In_ok-push_row) → Numbered
+abbrev added : (c : goal.In_ok-push_row) → Numbered
 added c = record { number = c.args.number; row = c.args.row.now }
 
 table : (c : goal.In_ok-push_row) → IsTableOf c.push_row.new.table (rows_of_table c.self.inside.table ++ added c ∷ [])
