@@ -85,7 +85,11 @@ fn push_labels(
 
 /// Adds a row. A frame of 2^32 bytes or more wants memory. After want of memory the columns are of
 /// no use.
-pub fn push_row(table: &mut Table<DictionaryBuilder>, number: u64, row: &Row) -> Result<(), NoMemory>
+pub fn push_row(
+    table: &mut Table<DictionaryBuilder>,
+    number: u64,
+    row: &Row,
+) -> Result<(), NoMemory>
     ensures grows { OnOk result (
         GrowsBy (record { number = number; row = row.now }) table.old table.new) }
     ensures short { OnOk result (AreShort row.now.stack) }

@@ -1,4 +1,4 @@
-use Rattle.std.proofs.Common.{◌≡◌, ◌<◌, ◌-◌, ◌∙◌, cond, ap, sym, arith, List, ℕ, Option, Some}
+use Rattle.std.proofs.Common.{◌<◌, ◌-◌, ◌∙◌, cond, ap, arith, List, ℕ, Some}
 use Rattle.std.specs.Ordering.{is_eq}
 use Rattle.std.specs.BTreeMap.{get}
 use Rattle.fd_lists.specs.Texts.{text_cmp}

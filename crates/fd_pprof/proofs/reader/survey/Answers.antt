@@ -1,4 +1,3 @@
-use Rattle.std.proofs.Common.{◌∙◌}
 use Rattle.fd_pprof.proofs.Refusals.{profile_read}
 use Rattle.fd_pprof.proofs.reader.survey.Goals as goal
 

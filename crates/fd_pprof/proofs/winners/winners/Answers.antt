@@ -1,4 +1,4 @@
-use Rattle.std.proofs.Common.{◌≡◌, ◌<◌, ◌-◌, ◌∙◌, ◌∷◌, [], ◌++◌, ap, map, drop, get_or, sym, subst, arith, List}
+use Rattle.std.proofs.Common.{◌<◌, ◌-◌, ◌∙◌, ◌∷◌, [], ap, map, drop, get_or, sym, subst, arith, List}
 use Rattle.std.proofs.lemmas.List.{map-append}
 use Rattle.fd_kinds.specs.declared.pair.Pair.{Pair}
 use Rattle.fd_proto.specs.declared.raw.RawLabel.{RawLabel}

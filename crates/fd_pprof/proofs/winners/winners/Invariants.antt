@@ -1,4 +1,4 @@
-use Rattle.std.proofs.Common.{◌≡◌, ◌≤◌, drop, map, length}
+use Rattle.std.proofs.Common.{◌≤◌, drop, map, length}
 use Rattle.fd_pprof.specs.Profile.{pair_of}
 use Rattle.fd_pprof.specs.Winners.{AreSeen, AreWinners}
 use Rattle.fd_pprof.proofs.winners.winners.Given as goal

@@ -1,10 +1,9 @@
-use Rattle.std.proofs.Common.{◌≡◌, ◌∙◌, true, refl, ap, sym, ℕ, List, Option, Some, None}
+use Rattle.std.proofs.Common.{◌≡◌, ◌∙◌, refl, ap, sym, ℕ, List, Some, None}
 use Rattle.std.specs.Prelude.{slice_get}
-use Rattle.fd_kinds.specs.LabelMaps.{is_kept}
 use Rattle.fd_pprof.specs.Frames.{text}
 use Rattle.fd_pprof.specs.Profile.{pair_of}
 use Rattle.fd_pprof.specs.Winners.{text_numbers}
-use Rattle.fd_pprof.proofs.WinnerSteps.{seen_more, new_key, not_there}
+use Rattle.fd_pprof.proofs.WinnerSteps.{seen_more, not_there}
 use Rattle.fd_pprof.proofs.winners.wins.Goals as goal
 
 pub returns-in_ok-insert-in-Some-clause-seen : goal.returns-in_ok-insert-in-Some-clause-seen

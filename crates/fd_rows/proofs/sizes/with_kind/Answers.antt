@@ -1,4 +1,4 @@
-use Rattle.std.proofs.Common.{rules, w64, to_z, of_z, ◌≡◌, ◌≤◌, ◌-◌, ◌^◌, ◌∙◌, ap, sym, subst, arith, Option, Some, None}
+use Rattle.std.proofs.Common.{rules, w64, to_z, of_z, ◌≡◌, ◌∙◌, ap, sym, subst, arith, Option, Some, None}
 use Rattle.std.specs.Prelude.{MatchOption, slice_get}
 use Rattle.fd_pprof.specs.declared.profile.Sample.{Sample}
 use Rattle.fd_rows.specs.Rows.{value_rows}

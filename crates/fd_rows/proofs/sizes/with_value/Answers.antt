@@ -1,4 +1,4 @@
-use Rattle.std.proofs.Common.{rules, ◌≡◌, ◌≤◌, ◌-◌, ◌^◌, ◌∙◌, subst, arith, Option}
+use Rattle.std.proofs.Common.{rules, ◌≡◌, subst, arith, Option}
 use Rattle.std.specs.Prelude.{MatchOption}
 use Rattle.fd_pprof.specs.declared.profile.ValueType.{ValueType}
 use Rattle.fd_pprof.specs.Sizes.{type_size}
