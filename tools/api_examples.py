@@ -12,7 +12,8 @@ session, in their order, and the last one ends it.
 import re
 import sys
 
-ROOT = pathlib.Path(__file__).resolve().parent.parent
+from program import ROOT, help_asked
+
 FOLDER = ROOT / 'crates/run_api_examples'
 REASONS = {
     200: 'OK', 400: 'Bad Request', 404: 'Not Found', 405: 'Method Not Allowed', 409: 'Conflict',

@@ -4,9 +4,10 @@
 usage: tools/block_file.py OUT [PROGRAM [WRITES [SEED]]]
        tools/block_file.py --stored [--write]
     OUT: where the file goes, which tools/parquet_reader.py prints, and any other Parquet reader
-    PROGRAM: default crates/run_block_file/out/run_block_file, made by `rt run`; WRITES: default 12, SEED: default 1
-    --stored says whether the stored run of crates/run_block_file is the session of three made writes with the
-    file of their rows, and with --write makes it
+    PROGRAM: default crates/run_block_file/out/run_block_file, made by `rt run`; WRITES: 1 or more, default 12; SEED:
+        default 1
+    --stored says whether the stored run of crates/run_block_file is the session of made writes with the file of
+    their rows, whose columns have two pages, and with --write makes it
 
 It makes a session of writes (those of tools/plain_answers.py) and runs the program on it. The rows that
 the reader finds in the file must be the plain list of the rows written, in their order and with their
@@ -38,7 +39,10 @@ from program import help_asked, program_of
 
 ROOT = pathlib.Path(__file__).resolve().parent.parent
 FOLDER = ROOT / 'crates/run_block_file'
-STORED_SEED, STORED_WRITES = 4, 3
+# More rows than a page has, of more writes than one compaction takes.
+STORED_SEED, STORED_WRITES, STORED_SERIES = 4, 18, 20
+# A write of a few rows with labels of both kinds.
+SMALL_SEED = 9
 # So many series a write, that pages are filled.
 MOST_SERIES = 100
 
@@ -354,7 +358,7 @@ def main():
     if len(sys.argv) < 2:
         print(__doc__.strip('\n'), file=sys.stderr)
         return 1
-    program = sys.argv[2] if len(sys.argv) > 2 else str(FOLDER / 'out/run_block_file')
+    program = program_of(sys.argv[2] if len(sys.argv) > 2 else None, FOLDER.name)
     writes = int(sys.argv[3]) if len(sys.argv) > 3 else 12
     seed = int(sys.argv[4]) if len(sys.argv) > 4 else 1
     return write_file(pathlib.Path(sys.argv[1]), program, writes, seed)

@@ -1,11 +1,14 @@
-ghost use Rattle.std.specs.Prelude.{◌≡◌, ◌<◌, ◌≤◌, ◌+◌, ◌^◌, [], ◌∷◌, ◌++◌, length, map, IfOk};
+ghost use Rattle.std.specs.Prelude.{◌≡◌, ◌<◌, ◌≤◌, ◌+◌, ◌^◌, [], ◌∷◌, ◌++◌, length, map, filter, IfOk};
+ghost use Rattle.fd_kinds.specs.History.{IsOpened, history_of};
 ghost use Rattle.fd_kinds.specs.Parts.{rows_of};
 ghost use Rattle.fd_shelf.specs.Books.{IsLoose, settled_parts, bytes_of, MOST_BATCH};
 ghost use Rattle.fd_shelf.specs.Histories.{hist, in_row_order};
+ghost use Rattle.fd_shelf.specs.Steps.{is_loose};
 ghost use Rattle.fd_part.specs.Parts.{part_meaning};
 
 use fd_answer::answer;
 use fd_compact::compact_full;
+use fd_kinds::limits::MOST_NUMBERS;
 use fd_kinds::{
     Batch, Held, NoMemory, Query, ReadRefusal, Seen, Stand, Store, WriteRefusal, meaning_laws,
 };
@@ -13,26 +16,33 @@ use fd_part::Part;
 use fd_shelf::{Picked, Shelf};
 use std::marker::Model;
 
-/// Numbers are drawn while fewer than these were.
-const MOST_NUMBERS: u64 = 1 << 62;
-
-/// A store in memory that nobody shares. Contracts see it as its history: the list of its
-/// batches, of which the first has the number 1.
+/// A store in memory that nobody shares. Contracts see it as the history that it was opened with and
+/// the batches that were added to it: batch n of both, one behind the other, has the number n.
 #[derive(Debug, Drop)]
 pub struct Local {
     shelf: Shelf<Part>,
+    // how many batches there were when the store was opened
+    opened: u64,
+    // whether the last write found no memory to compact
+    wanting: bool,
 }
 
 impl Model for Local {
-    ghost use Rattle.std.specs.Prelude.{◌≡◌, []};
-    ghost use Rattle.fd_kinds.specs.History.{History};
+    ghost use Rattle.std.specs.Prelude.{◌≡◌, ◌≤◌, [], take, drop, filter, length};
+    ghost use Rattle.fd_kinds.specs.History.{LocalView};
     ghost use Rattle.fd_shelf.specs.Histories.{hist};
+    ghost use Rattle.fd_shelf.specs.Steps.{is_loose};
 
-    ghost Value = { History };
+    ghost Value = { LocalView };
 
-    ghost view = { λ s. hist s.shelf.book s.shelf.mark };
+    ghost view = { λ s. record {
+        opening = take s.opened (hist s.shelf.book s.shelf.mark);
+        added = drop s.opened (hist s.shelf.book s.shelf.mark);
+        loose = length (filter is_loose s.shelf.book.active);
+        wanting = s.wanting;
+    } };
 
-    ghost invariant = { λ s. s.shelf.book.stragglers ≡ [] };
+    ghost invariant = { λ s. (s.shelf.book.stragglers ≡ []) × (s.opened ≤ s.shelf.mark) };
 }
 
 /// Adds a batch that has no number, under the number that follows the mark.
@@ -63,7 +73,7 @@ fn drawn(shelf: &Shelf<Part>) -> u64
 }
 
 /// Shares of all parts, in order.
-#[tactic(auto, using(crate::proofs::Settled::upto_mark))]
+#[tactic(auto, using(crate::proofs::ShelfHistory::upto_mark))]
 fn all_parts(shelf: &Shelf<Part>) -> Result<Picked<Part>, NoMemory>
     ensures { IfOk result (λ picked. map (λ i. part_meaning i.part) picked ≡ settled_parts shelf.now.book) }
 {
@@ -72,20 +82,28 @@ fn all_parts(shelf: &Shelf<Part>) -> Result<Picked<Part>, NoMemory>
 }
 
 impl Local {
-    /// A store over a shelf without stragglers. It takes no memory.
+    /// A store over a shelf without stragglers, which is opened with the shelf's history. It takes
+    /// no memory.
     pub fn new(shelf: Shelf<Part>) -> Local
         requires { shelf.book.stragglers ≡ [] }
-        ensures { result ≡ hist shelf.book shelf.mark }
+        ensures { IsOpened (hist shelf.book shelf.mark) result }
     {
-        Local { shelf }
+        shelf.history_laws();
+        let opened = shelf.mark();
+        Local {
+            shelf,
+            opened,
+            wanting: false,
+        }
     }
 
     /// The shelf of the store. It takes no memory.
     pub fn close(self) -> Shelf<Part>
         ensures alone { result.book.stragglers ≡ [] }
-        ensures history { hist result.book result.mark ≡ self }
+        ensures history { hist result.book result.mark ≡ history_of self }
+        ensures loose { length (filter is_loose result.book.active) ≡ self.loose }
     {
-        let Local { shelf } = self;
+        let Local { shelf, .. } = self;
         shelf
     }
 }
@@ -123,7 +141,7 @@ impl Store for Local {
         self.shelf.reserve(1)?;
         add(&mut self.shelf, part);
         // Where memory is wanting for it, a later write compacts.
-        let _ = compact_full(&mut self.shelf);
+        self.wanting = compact_full(&mut self.shelf).is_err();
         Ok(drawn + 1)
     }
 

@@ -1,7 +1,7 @@
 use Rattle.std.proofs.Common.{rules, ap, ◌≡◌, ◌+◌}
 use Rattle.fd_kinds.specs.Parts.{rows_of}
 use Rattle.fd_part.specs.Parts.{part_meaning}
-use Rattle.fd_store.proofs.Settled.{added_history}
+use Rattle.fd_store.proofs.ShelfHistory.{added_history}
 use Rattle.fd_store.proofs.local.add.Goals as goal
 
 pub returns-clause-history : goal.returns-clause-history

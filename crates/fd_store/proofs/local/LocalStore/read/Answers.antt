@@ -5,7 +5,7 @@ use Rattle.fd_kinds.specs.Parts.{rows_of}
 use Rattle.fd_shelf.specs.Books.{settled_parts, rows_in}
 use Rattle.fd_shelf.specs.Histories.{hist}
 use Rattle.fd_part.specs.Parts.{part_meaning}
-use Rattle.fd_store.proofs.Settled.{rows_of_picked}
+use Rattle.fd_store.proofs.ShelfHistory.{rows_of_picked}
 use Rattle.fd_store.proofs.local.LocalStore.read.Goals as goal
 
 pub returns-clause-gives : goal.returns-clause-gives

@@ -3,7 +3,7 @@ use Rattle.fd_kinds.specs.Parts.{rows_of}
 use Rattle.fd_kinds.proofs.PartLaws.{rows_of_with_number}
 use Rattle.fd_shelf.specs.Histories.{hist, in_row_order}
 use Rattle.fd_part.specs.Parts.{part_meaning}
-use Rattle.fd_store.proofs.Settled.{in_order_of_sorted}
+use Rattle.fd_store.proofs.ShelfHistory.{in_order_of_sorted}
 use Rattle.fd_store.proofs.local.LocalStore.write.Goals as goal
 
 pub returns-clause-gives : goal.returns-clause-gives
