@@ -1,7 +1,9 @@
 -- What a run over a store that nobody else writes tells, by induction over its requests.
 use Rattle.std.proofs.Common.{◌≡◌, ◌⊎◌, ℕ, ◌+◌, ◌-◌, List, [], ◌∷◌, ◌++◌, length, Result, Ok, Err, refl, sym, ap, ◌∙◌, subst, arith, append_assoc, length-append, inl, inr}
-use Rattle.std.proofs.lemmas.List.{append_cancel_left}
-use Rattle.fd_kinds.specs.History.{History, Writes, Reads, Stands}
+use Rattle.std.proofs.lemmas.List.{append_cancel_left, append-nil}
+use Rattle.fd_kinds.specs.History.{History, LocalView, history_of, count_of, Adds, Writes, Reads, Stands}
+use Rattle.fd_kinds.specs.declared.row.Row.{Row}
+use Rattle.fd_kinds.specs.declared.query.Query.{Query}
 use Rattle.fd_kinds.specs.declared.store.WriteRefusal.{WriteRefusal}
 use Rattle.fd_kinds.specs.declared.store.WriteRefusal.TheVariants as write
 use Rattle.fd_kinds.specs.declared.store.ReadRefusal.{ReadRefusal}
@@ -32,53 +34,97 @@ numbered_more first (rows ∷ old) more = ap (λ l. record { number = first; row
 abbrev Counts : ℕ → Note → ℕ → Type 0
 Counts count note after = (notes : List Note) → Exact after notes → Exact count (note ∷ notes)
 
-wrote : (old : History) (rows : _) (result : Result ℕ WriteRefusal) (new : History) (note : Note) (reply : Response) → Writes old rows result new → TellsWrite result note reply → Counts (length old) note (length new)
-wrote old rows (Ok number) new note reply (below, is, pushed) (noted, _) notes exact =
-    let long : length new ≡ length old + 1 = ap length pushed ∙ length-append old (rows ∷ []) in
-    subst (λ m. Exact (length old) (m ∷ notes)) (sym noted) (is, subst (λ n. Exact n notes) long exact)
-wrote old rows (Err write.DiskFault) new note reply same (noted, _) notes exact = subst (λ m. Exact (length old) (m ∷ notes)) (sym noted) (subst (λ n. Exact n notes) (ap length same) exact)
-wrote old rows (Err (write.Spent drawn)) new note reply (many, is, same) (noted, _) notes exact =
-    subst (λ m. Exact (length old) (m ∷ notes)) (sym noted) (is, subst (λ n. Exact n notes) (ap length same) exact)
-wrote old rows (Err write.NoMemory) new note reply same (noted, _) notes exact = subst (λ m. Exact (length old) (m ∷ notes)) (sym noted) (subst (λ n. Exact n notes) (ap length same) exact)
+-- what one note comes to by the store before and after it
+abbrev Tallies : LocalView → Note → LocalView → Type 0
+Tallies old note new = Counts (count_of old) note (count_of new)
 
-answered : (old : History) (after : ℕ) (query : _) (result : Result Seen ReadRefusal) (new : History) (note : Note) (reply : Response) → Reads old after query result new → TellsRead result note reply → Counts (length old) note (length new)
-answered old after query (Ok seen) new note reply (low, at, means, same) (noted, _) notes exact =
-    subst (λ m. Exact (length old) (m ∷ notes)) (sym noted) (at, subst (λ n. Exact n notes) (ap length same) exact)
-answered old after query (Err (read.NotDrawn drawn)) new note reply (above, is, same) (noted, _) notes exact =
-    subst (λ m. Exact (length old) (m ∷ notes)) (sym noted) (is, subst (λ n. Exact n notes) (ap length same) exact)
-answered old after query (Err read.NoMemory) new note reply same (noted, _) notes exact = subst (λ m. Exact (length old) (m ∷ notes)) (sym noted) (subst (λ n. Exact n notes) (ap length same) exact)
+-- the store was opened with the same history, and more was added to it
+record Extends (old new : LocalView) : Type 0 where
+  pub opening : new.opening ≡ old.opening
+  pub more : History
+  pub added : new.added ≡ old.added ++ more
 
-does : (a : Demand) (old : History) (note : Note) (reply : Response) (new : History) → Does Writes Reads Stands a old note reply new → Counts (length old) note (length new)
+extends_same : (old new : LocalView) → new ≡ old → Extends old new
+extends_same old new same = record { opening = ap (λ (v : LocalView). v.opening) same; more = []; added = ap (λ (v : LocalView). v.added) same ∙ sym (append-nil old.added) }
+
+extends_on : (a b c : LocalView) → Extends a b → Extends b c → Extends a c
+extends_on a b c f g = record {
+  opening = g.opening ∙ f.opening;
+  more = f.more ++ g.more;
+  added = g.added ∙ (ap (λ (l : History). l ++ g.more) f.added ∙ append_assoc a.added f.more g.more);
+}
+
+-- one batch more
+longer : (old : LocalView) (rows : List Row) (new : LocalView) → Adds old rows new → count_of new ≡ count_of old + 1
+longer old rows new adds =
+    ap (λ (o : History). length (o ++ new.added)) adds.opening
+    ∙ (ap (λ (l : History). length (old.opening ++ l)) adds.added
+    ∙ (ap length (sym (append_assoc old.opening old.added (rows ∷ []))) ∙ length-append (old.opening ++ old.added) (rows ∷ [])))
+
+-- what a note says that leaves the count as it is
+stays : (old new : LocalView) (note said : Note) (notes : List Note) → note ≡ said → new ≡ old → Exact (count_of new) notes → (Exact (count_of old) notes → Exact (count_of old) (said ∷ notes)) → Exact (count_of old) (note ∷ notes)
+stays old new note said notes noted same exact says = subst (λ m. Exact (count_of old) (m ∷ notes)) (sym noted) (says (subst (λ (v : LocalView). Exact (count_of v) notes) same exact))
+
+wrote : (old : LocalView) (rows : List Row) (result : Result ℕ WriteRefusal) (new : LocalView) (note : Note) (reply : Response) → Writes old rows result new → TellsWrite result note reply → Extends old new × Tallies old note new
+wrote old rows (Ok number) new note reply (below, is, adds) (noted, _) = (
+  record { opening = adds.opening; more = rows ∷ []; added = adds.added },
+  λ notes exact. subst (λ m. Exact (count_of old) (m ∷ notes)) (sym noted) (is, subst (λ n. Exact n notes) (longer old rows new adds) exact),
+)
+wrote old rows (Err write.DiskFault) new note reply same (noted, _) = (extends_same old new same, λ notes exact. stays old new note Faulted notes noted same exact (λ e. e))
+wrote old rows (Err (write.Spent drawn)) new note reply (many, is, same) (noted, _) = (extends_same old new same, λ notes exact. stays old new note (Spent drawn) notes noted same exact (λ e. (is, e)))
+wrote old rows (Err write.NoMemory) new note reply same (noted, _) = (extends_same old new same, λ notes exact. stays old new note Short notes noted same exact (λ e. e))
+
+answered : (old : LocalView) (after : ℕ) (query : Query) (result : Result Seen ReadRefusal) (new : LocalView) (note : Note) (reply : Response) → Reads old after query result new → TellsRead result note reply → Extends old new × Tallies old note new
+answered old after query (Ok seen) new note reply (low, at, means, same) (noted, _) = (extends_same old new same, λ notes exact. stays old new note (Read seen.watermark) notes noted same exact (λ e. (at, e)))
+answered old after query (Err (read.NotDrawn drawn)) new note reply (above, is, same) (noted, _) = (extends_same old new same, λ notes exact. stays old new note (NotDrawn drawn) notes noted same exact (λ e. (is, e)))
+answered old after query (Err read.NoMemory) new note reply same (noted, _) = (extends_same old new same, λ notes exact. stays old new note Short notes noted same exact (λ e. e))
+
+does : (a : Demand) (old : LocalView) (note : Note) (reply : Response) (new : LocalView) → Does Writes Reads Stands a old note reply new → Extends old new × Tallies old note new
 does (asked.Write accepted) old note reply new (result, gives, tells) = wrote old accepted.batch.rows result new note reply gives tells
 does (asked.Read query after) old note reply new (result, gives, tells) = answered old after query result new note reply gives tells
-does asked.Stand old note reply new (stand, (drawn, synced, at, same), noted, _) = λ notes exact.
-    subst (λ m. Exact (length old) (m ∷ notes)) (sym noted) (drawn, synced, at, subst (λ n. Exact n notes) (ap length same) exact)
-does (asked.NotAllowed allow) old note reply new (same, noted, _) = λ notes exact. subst (λ m. Exact (length old) (m ∷ notes)) (sym noted) (subst (λ n. Exact n notes) (ap length same) exact)
-does (asked.Refused f) old note reply new (same, noted, _) = λ notes exact. subst (λ m. Exact (length old) (m ∷ notes)) (sym noted) (subst (λ n. Exact n notes) (ap length same) exact)
+does asked.Stand old note reply new (stand, (drawn, synced, at, same), noted, _) =
+    (extends_same old new same, λ notes exact. stays old new note (Stood stand.drawn stand.synced stand.watermark) notes noted same exact (λ e. (drawn, synced, at, e)))
+does (asked.NotAllowed allow) old note reply new (same, noted, _) = (extends_same old new same, λ notes exact. stays old new note Refused notes noted same exact (λ e. e))
+does (asked.Refused f) old note reply new (same, noted, _) = (extends_same old new same, λ notes exact. stays old new note Refused notes noted same exact (λ e. e))
 
-handles : (request : Request) (old : History) (note : Note) (reply : Response) (new : History) → Handles Writes Reads Stands request old note reply new → Counts (length old) note (length new)
+handles : (request : Request) (old : LocalView) (note : Note) (reply : Response) (new : LocalView) → Handles Writes Reads Stands request old note reply new → Extends old new × Tallies old note new
 handles request old note reply new (inl (a, asks, done)) = does a old note reply new done
-handles request old note reply new (inr up) = λ notes exact. subst (λ m. Exact (length old) (m ∷ notes)) (sym up.noted) (subst (λ n. Exact n notes) (ap length up.store) exact)
+handles request old note reply new (inr up) = (extends_same old new up.store, λ notes exact. stays old new note Short notes up.noted up.store exact (λ e. e))
 
-exact_run : (old : History) (room : ℕ) (requests : List Request) (notes : List Note) (new : History) (output : List ℕ) → Runs Writes Reads Stands old room requests notes new output → Exact (length old) notes
-exact_run old room [] [] new output run = tt
-exact_run old room [] (note ∷ notes) new output run = absurd run
-exact_run old room (request ∷ requests) [] new output run = absurd run
-exact_run old room (request ∷ requests) (note ∷ notes) new output (some, mid, first, rest, serves, run, whole) =
-    handles request old note serves.reply mid serves.handled notes (exact_run mid (room - 1) requests notes new rest run)
+run_tallies : (old : LocalView) (room : ℕ) (requests : List Request) (notes : List Note) (new : LocalView) (output : List ℕ) → Runs Writes Reads Stands old room requests notes new output → Extends old new × Exact (count_of old) notes
+run_tallies old room [] [] new output run = (extends_same old new run.0, tt)
+run_tallies old room [] (note ∷ notes) new output run = absurd run
+run_tallies old room (request ∷ requests) [] new output run = absurd run
+run_tallies old room (request ∷ requests) (note ∷ notes) new output (some, mid, first, rest, serves, run, whole) =
+    let here = handles request old note serves.reply mid serves.handled in
+    let later = run_tallies mid (room - 1) requests notes new rest run in
+    (extends_on old mid new here.0 later.0, here.1 notes later.1)
 
-pub alone_runs : (old : History) (room : ℕ) (requests : List Request) (notes : List Note) (new : History) (output : List ℕ) → Runs Writes Reads Stands old room requests notes new output → AloneRan old room requests notes new output
+-- what was written through the store behind what was added before
+written_more : (old : LocalView) (opening added more : History) → opening ≡ old.opening → added ≡ old.added ++ more
+    → numbered_from (length opening + 1) added ≡ numbered_from (length old.opening + 1) old.added ++ numbered_from (1 + count_of old) more
+written_more old opening added more same gains =
+    let count : length (old.opening ++ old.added) ≡ length old.opening + length old.added = length-append old.opening old.added in
+    let next : length old.opening + 1 + length old.added ≡ 1 + count_of old = omega (arith, count) in
+    ap (λ (o : History). numbered_from (length o + 1) added) same
+    ∙ (ap (numbered_from (length old.opening + 1)) gains
+    ∙ (numbered_more (length old.opening + 1) old.added more
+    ∙ ap (λ (n : ℕ). numbered_from (length old.opening + 1) old.added ++ numbered_from n more) next))
+
+pub alone_runs : (old : LocalView) (room : ℕ) (requests : List Request) (notes : List Note) (new : LocalView) (output : List ℕ) → Runs Writes Reads Stands old room requests notes new output → AloneRan old room requests notes new output
 alone_runs old room requests notes new output run =
     let ran = runs Writes Reads Stands alone alone-write alone-read alone-stand old room requests notes new output run in
-    let own : numbered_from 1 old ++ ran.written ≡ numbered_from 1 old ++ numbered_from (1 + length old) ran.grows.more =
-    sym ran.own ∙ (ap (numbered_from 1) ran.grows.joined ∙ numbered_more 1 old ran.grows.more) in record {
-      more = ran.grows.more;
-      joined = ran.grows.joined;
-      exact = exact_run old room requests notes new output run;
-      accounts = subst (λ (ws : List Written). Accounts new room requests notes ws output) (append_cancel_left (numbered_from 1 old) ran.written (numbered_from (1 + length old) ran.grows.more) own) ran.accounts;
+    let tallied = run_tallies old room requests notes new output run in
+    let own : (alone old).own ++ ran.written ≡ (alone old).own ++ numbered_from (1 + count_of old) tallied.0.more =
+    sym ran.own ∙ written_more old new.opening new.added tallied.0.more tallied.0.opening tallied.0.added in record {
+      opening = tallied.0.opening;
+      more = tallied.0.more;
+      added = tallied.0.added;
+      exact = tallied.1;
+      accounts = subst (λ (ws : List Written). Accounts (history_of new) room requests notes ws output) (append_cancel_left (alone old).own ran.written (numbered_from (1 + count_of old) tallied.0.more) own) ran.accounts;
     }
 
-pub alone_session : (left_old left_new taken_old taken_new : Option (List ℕ)) (before now : ℕ) (old : History) (notes : List Note) (new : History) (end : EndKind)
+pub alone_session : (left_old left_new taken_old taken_new : Option (List ℕ)) (before now : ℕ) (old : LocalView) (notes : List Note) (new : LocalView) (end : EndKind)
     → Ends Writes Reads Stands left_old left_new taken_old taken_new before now old notes new end → AloneSessionRan left_old left_new taken_old taken_new before now old notes new end
 alone_session left_old left_new taken_old taken_new before now old notes new end ends = record {
   requests = ends.requests;

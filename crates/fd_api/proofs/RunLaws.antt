@@ -98,7 +98,7 @@ module _ {S : Type 0} (write_gives : S → List Row → Result ℕ WriteRefusal 
     grows = facts.grows;
     written = [];
     own = facts.own ∙ sym (append-nil old.own);
-    fits = inl (asked.Write accepted, is, (accepted, refl, facts.spent, replied, refl));
+    fits = inl (asked.Write accepted, is, (accepted, refl, facts.spent.0, replied, refl));
   }
   wrote old new request accepted (Err write.NoMemory) note reply is facts (noted, replied) = subst (λ (m : Note). Handled old request m reply new) (sym noted) record {
     grows = facts.grows;
@@ -119,7 +119,7 @@ module _ {S : Type 0} (write_gives : S → List Row → Result ℕ WriteRefusal 
     grows = facts.grows;
     written = [];
     own = facts.own ∙ sym (append-nil old.own);
-    fits = inl (asked.Read query after, is, (query, after, refl, facts.answers, replied, refl));
+    fits = inl (asked.Read query after, is, (query, after, refl, facts.answers.0, replied, refl));
   }
   answered old new request query after (Err read.NoMemory) note reply is facts (noted, replied) = subst (λ (m : Note). Handled old request m reply new) (sym noted) record {
     grows = facts.grows;

@@ -2,7 +2,8 @@
 use Rattle.std.specs.Prelude.{◌≡◌, ◌⊎◌, ℕ, ◌+◌, ◌-◌, ◌<◌, ◌≤◌, Bool, List, [], ◌∷◌, ◌++◌, length}
 use Rattle.fd_kinds.specs.declared.query.Query.{Query}
 use Rattle.fd_kinds.specs.declared.stand.Stand as kinds
-use Rattle.fd_kinds.specs.History.{History, upto, MOST_NUMBERS}
+use Rattle.fd_kinds.specs.History.{History, upto}
+use Rattle.fd_kinds.specs.declared.limits.TheConstants.{MOST_NUMBERS}
 use Rattle.fd_kinds.specs.Meaning.{meaning}
 use Rattle.fd_kinds.specs.Stores.{Grows, Written, StoreView}
 use Rattle.fd_api.specs.declared.small_batch.SmallBatch.{SmallBatch}

@@ -1,6 +1,6 @@
 -- A run over a store that nobody else writes: its numbers are exact.
 use Rattle.std.specs.Prelude.{◌≡◌, ℕ, ◌+◌, List, [], ◌∷◌, ◌++◌, length}
-use Rattle.fd_kinds.specs.History.{History}
+use Rattle.fd_kinds.specs.History.{History, LocalView, history_of, count_of}
 use Rattle.fd_kinds.specs.Stores.{numbered_from}
 use Rattle.fd_http.specs.declared.request.Request.{Request}
 use Rattle.fd_api.specs.declared.note.Note.{Note}
@@ -22,15 +22,17 @@ Exact count (Refused ∷ notes) = Exact count notes
 Exact count (Faulted ∷ notes) = Exact count notes
 Exact count (Short ∷ notes) = Exact count notes
 
--- The new history is the old one followed by exactly the batches of the notes, which have the numbers behind it.
-pub record AloneRan (old : History) (room : ℕ) (requests : List Request) (notes : List Note) (new : History) (output : List ℕ) : Type 0 where
+-- The store was opened with the same history as before, and was added exactly the batches of the notes, which have the
+-- numbers behind its batches.
+pub record AloneRan (old : LocalView) (room : ℕ) (requests : List Request) (notes : List Note) (new : LocalView) (output : List ℕ) : Type 0 where
+  pub opening : new.opening ≡ old.opening
   pub more : History
-  pub joined : new ≡ old ++ more
-  pub exact : Exact (length old) notes
-  pub accounts : Accounts new room requests notes (numbered_from (1 + length old) more) output
+  pub added : new.added ≡ old.added ++ more
+  pub exact : Exact (count_of old) notes
+  pub accounts : Accounts (history_of new) room requests notes (numbered_from (1 + count_of old) more) output
 
--- A session over such a store: the requests that it read, what became of the history by them, and what was sent.
-pub record AloneSessionRan (left_old left_new taken_old taken_new : Option (List ℕ)) (before now : ℕ) (old : History) (notes : List Note) (new : History) (end : EndKind) : Type 0 where
+-- A session over such a store: the requests that it read, what became of the store by them, and what was sent.
+pub record AloneSessionRan (left_old left_new taken_old taken_new : Option (List ℕ)) (before now : ℕ) (old : LocalView) (notes : List Note) (new : LocalView) (end : EndKind) : Type 0 where
   pub requests : List Request
   pub output : List ℕ
   pub read : ReadBy left_old left_new end requests

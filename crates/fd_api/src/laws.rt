@@ -5,7 +5,7 @@ ghost use Rattle.fd_api.specs.declared.sessions.EndKind.{EndKind};
 ghost use Rattle.fd_api.specs.Sessions.{Runs, Ends};
 ghost use Rattle.fd_api.specs.Accounts.{Ran};
 ghost use Rattle.fd_api.specs.Alone.{AloneRan, AloneSessionRan};
-ghost use Rattle.fd_kinds.specs.History.{History, Writes, Reads, Stands};
+ghost use Rattle.fd_kinds.specs.History.{LocalView, Writes, Reads, Stands};
 
 use fd_kinds::Store;
 
@@ -18,15 +18,15 @@ pub fn run_laws<T: Store>(_store: &T)
         → Ran (T.sees old) room requests notes (T.sees new) output }
 {}
 
-/// What a session tells of a store that nobody else writes: its history gains exactly the batches
-/// of the notes, with the numbers behind it, and each note's numbers are exact.
+/// What a session tells of a store that nobody else writes: it is added exactly the batches of
+/// the notes, with the numbers behind its batches, and each note's numbers are exact.
 pub fn alone_laws()
-    ensures runs { (old : History) → (room : ℕ) → (requests : List Request) → (notes : List Note)
-        → (new : History) → (output : List ℕ)
+    ensures runs { (old : LocalView) → (room : ℕ) → (requests : List Request) → (notes : List Note)
+        → (new : LocalView) → (output : List ℕ)
         → Runs Writes Reads Stands old room requests notes new output
         → AloneRan old room requests notes new output }
     ensures session { (left_old left_new taken_old taken_new : Option (List ℕ)) → (before now : ℕ)
-        → (old : History) → (notes : List Note) → (new : History) → (end : EndKind)
+        → (old : LocalView) → (notes : List Note) → (new : LocalView) → (end : EndKind)
         → Ends Writes Reads Stands
             left_old left_new taken_old taken_new before now old notes new end
         → AloneSessionRan left_old left_new taken_old taken_new before now old notes new end }

@@ -2,7 +2,7 @@
 use Rattle.std.specs.Prelude.{◌≡◌, ℕ, ◌++◌, ◌∷◌, [], ◌⊎◌, List, Option, codes}
 use Rattle.std.specs.Io.KnownBytes.{Keeps, Appends}
 use Rattle.fd_lists.specs.Counts.{Rose}
-use Rattle.fd_kinds.specs.History.{History, Writes, Reads, Stands}
+use Rattle.fd_kinds.specs.History.{LocalView, IsOpened, Writes, Reads, Stands}
 use Rattle.fd_http.specs.Replies.{AppendsFront}
 use Rattle.fd_api.specs.declared.note.Note.{Note}
 use Rattle.fd_api.specs.declared.sessions.EndKind.{EndKind}
@@ -51,13 +51,15 @@ bad_words = line (codes "frostd: bad words")
 abbrev pub Tells : Option (List ℕ) → Option (List ℕ) → ℕ → ℕ → List ℕ → Type 0
 Tells old new before now text = (Appends old new text × (now ≡ before)) ⊎ (AppendsFront old new text × Rose before now)
 
--- The run of a session from the history without batches: there are an end, notes and a history with which it meets what
--- a session leaves over a history that nobody else writes. The history is exactly the batches of the notes, numbered from
--- 1, and each note's numbers are exact.
+-- The run of a session over a store that was opened without batches: there are notes, and that store before and after,
+-- with which the end meets what a session leaves over a store that nobody else writes. The store then has exactly the
+-- batches of the notes, numbered from 1, and each note's numbers are exact.
 pub record RunsSession (left_old left_new taken_old taken_new : Option (List ℕ)) (reads_before reads_now writes_before writes_now : ℕ) (end : EndKind) : Type 0 where
   pub notes : List Note
-  pub history : History
-  pub ends : Ends Writes Reads Stands left_old left_new taken_old taken_new writes_before writes_now [] notes history end
-  pub ran : AloneSessionRan left_old left_new taken_old taken_new writes_before writes_now [] notes history end
+  pub first : LocalView
+  pub last : LocalView
+  pub opened : IsOpened [] first
+  pub ends : Ends Writes Reads Stands left_old left_new taken_old taken_new writes_before writes_now first notes last end
+  pub ran : AloneSessionRan left_old left_new taken_old taken_new writes_before writes_now first notes last end
   pub source : SourceCause reads_before reads_now end
   pub sink : SinkCause writes_before writes_now end

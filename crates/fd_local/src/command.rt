@@ -1,5 +1,6 @@
 ghost use Rattle.std.specs.Prelude.{◌≡◌, ◌≢◌, ◌↔◌, IsTrue, []};
 ghost use Rattle.std.specs.Io.KnownBytes.{Keeps};
+ghost use Rattle.fd_kinds.specs.History.{IsOpened};
 ghost use Rattle.fd_api.specs.declared.sessions.EndKind.{EndKind};
 ghost use Rattle.fd_local.specs.Runs.{session_words, status_of, line_of, bad_words, Tells, RunsSession};
 
@@ -60,7 +61,7 @@ pub fn run<S: Source, K: Sink, E: Sink>(
 
 /// A store without batches, in memory alone.
 fn empty_store(alloc: Global) -> Local
-    ensures { result ≡ [] }
+    ensures { IsOpened [] result }
 {
     Local::new(Shelf::new(alloc))
 }
