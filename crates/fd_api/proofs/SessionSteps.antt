@@ -17,7 +17,8 @@ use Rattle.fd_kinds.specs.declared.store.ReadRefusal.{ReadRefusal}
 use Rattle.fd_http.specs.declared.request.Request.{Request}
 use Rattle.fd_http.specs.declared.request.Arrived.TheVariants as arrived
 use Rattle.fd_http.specs.Arrivals.{Arrives, AtReadFault, IsUnfinished}
-use Rattle.fd_http.specs.Replies.{AppendsFront}
+use Rattle.fd_http.specs.declared.replies.Response.TheVariants as response
+use Rattle.fd_http.specs.Replies.{AppendsFront, reply_bytes}
 use Rattle.fd_http.specs.Inputs.{Holds, refused, End, closed, limit, refused_as}
 use Rattle.fd_http.specs.Inputs as ends
 use Rattle.fd_http.specs.Prefixes.{Leads}
@@ -264,6 +265,30 @@ module _ {S : Type 0} (write_gives : S → List Row → Result ℕ WriteRefusal 
         written = (last, sent, Appends-trans taken_old taken_mid taken_now so_far.output last so_far.written more);
       }
 
+      -- memory was wanting: the reply to that was written, or not
+      gave_up : (put : Put) → PutsReply taken_mid taken_now (reply_bytes (response.Short true)) put → PutCause mid_count now_count put → Finish kind.NoMemory
+      gave_up Done sent kept = (
+        record {
+          requests = so_far.requests;
+          output = so_far.output;
+          read = begins;
+          run = run_so_far;
+          written = inl (Appends-trans taken_old taken_mid taken_now so_far.output _ so_far.written sent, kept ∙ same_count);
+        },
+        inl (kept ∙ same_count),
+      )
+      gave_up Failed front rose =
+          let up : Rose before now_count = subst (λ (n : ℕ). Rose n now_count) same_count rose in (
+            record {
+              requests = so_far.requests;
+              output = so_far.output;
+              read = begins;
+              run = run_so_far;
+              written = inr (front.0, front.1, Appends-trans taken_old taken_mid taken_now so_far.output _ so_far.written front.2, up);
+            },
+            inr up,
+          )
+
       refused_ends : (f : RequestFault) (e : EndKind) → Arrives left_mid left_now inbox_mid inbox (Err f) → AtReadFault f (Given left_mid left_now inbox_mid IsUnfinished)
           → EndsAt taken_mid taken_now mid_count now_count f e → Finish e
       refused_ends head.BadHead e arrives given (inl (is, kept, last, sent, more)) = subst Finish (sym is) (dismissed head.BadHead fault.BadHead (split_refused head.BadHead arrives) last sent more, kept ∙ same_count)
@@ -276,29 +301,7 @@ module _ {S : Type 0} (write_gives : S → List Row → Result ℕ WriteRefusal 
           subst Finish (sym is) (record { requests = so_far.requests; output = so_far.output; read = split_refused head.Cut arrives; run = run_so_far; written = silent s }, s.count ∙ same_count)
       refused_ends head.ReadFault e arrives given (is, s) =
           subst Finish (sym is) (record { requests = so_far.requests; output = so_far.output; read = (begins, given_all left_old left_mid left_now inbox_mid so_far.requests room so_far.given some given); run = run_so_far; written = silent s }, s.count ∙ same_count)
-      refused_ends head.NoMemory e arrives given (is, Done, sent, kept) =
-          subst Finish (sym is) (
-            record {
-              requests = so_far.requests;
-              output = so_far.output;
-              read = begins;
-              run = run_so_far;
-              written = inl (Appends-trans taken_old taken_mid taken_now so_far.output _ so_far.written sent, kept ∙ same_count);
-            },
-            inl (kept ∙ same_count),
-          )
-      refused_ends head.NoMemory e arrives given (is, Failed, front, rose) =
-          let up : Rose before now_count = subst (λ (n : ℕ). Rose n now_count) same_count rose in
-          subst Finish (sym is) (
-            record {
-              requests = so_far.requests;
-              output = so_far.output;
-              read = begins;
-              run = run_so_far;
-              written = inr (front.0, front.1, Appends-trans taken_old taken_mid taken_now so_far.output _ so_far.written front.2, up);
-            },
-            inr up,
-          )
+      refused_ends head.NoMemory e arrives given (is, short) = subst Finish (sym is) (gave_up short.0 short.1 short.2)
 
       ended : Arrives left_mid left_now inbox_mid inbox (Ok arrived.End) → Silent taken_mid taken_now mid_count now_count → Finish kind.Ended
       ended arrives s = (

@@ -5,7 +5,7 @@ use Rattle.fd_kinds.specs.declared.stand.Stand as kinds
 use Rattle.fd_kinds.specs.History.{History, upto}
 use Rattle.fd_kinds.specs.declared.limits.TheConstants.{MOST_NUMBERS}
 use Rattle.fd_kinds.specs.Meaning.{meaning}
-use Rattle.fd_kinds.specs.Stores.{Grows, Written, StoreView}
+use Rattle.fd_kinds.specs.Stores.{Grows, Written, StoreView, Holds, Tops}
 use Rattle.fd_api.specs.declared.small_batch.SmallBatch.{SmallBatch}
 use Rattle.fd_api.specs.declared.demand.Demand.{Demand}
 use Rattle.fd_api.specs.declared.demand.Demand.TheVariants as asked
@@ -53,12 +53,34 @@ Accounts history room (request ∷ requests) (note ∷ notes) written output =
 Accounts history room [] (note ∷ notes) written output = ⊥
 Accounts history room (request ∷ requests) [] written output = ⊥
 
+-- the number of each batch is above those of what was written before it
+abbrev pub AllRise : List Written → List Written → Type 0
+AllRise own [] = Unit {0}
+AllRise own (first ∷ rest) = Tops first.number own × AllRise (own ++ first ∷ []) rest
+
+-- Told watermarks never fall, from the least one that a query may have been answered at before the notes to the one after
+-- them. Counts of drawn numbers that refuse are not below a watermark told before.
+abbrev pub Climb : ℕ → List Note → ℕ → Type 0
+Climb least [] now = least ≤ now
+Climb least (Wrote n ∷ notes) now = Climb least notes now
+Climb least (Read w ∷ notes) now = (least ≤ w) × Climb w notes now
+Climb least (Stood drawn synced w ∷ notes) now = (least ≤ w) × Climb w notes now
+Climb least (NotDrawn drawn ∷ notes) now = (least ≤ drawn) × Climb least notes now
+Climb least (Spent drawn ∷ notes) now = (least ≤ drawn) × Climb least notes now
+Climb least (Refused ∷ notes) now = Climb least notes now
+Climb least (Faulted ∷ notes) now = Climb least notes now
+Climb least (Short ∷ notes) now = Climb least notes now
+
 -- A run over a store: its history only grows, what was written through it gains exactly the batches of the notes, in
--- order, and each note fits the history in the end.
+-- order and under rising numbers, at which they stand in the history in the end where it reaches them, told watermarks
+-- never fall, and each note fits the history in the end.
 pub record Ran (old : StoreView) (room : ℕ) (requests : List Request) (notes : List Note) (new : StoreView) (output : List ℕ) : Type 0 where
   pub grows : Grows old.history new.history
   pub written : List Written
   pub own : new.own ≡ old.own ++ written
+  pub rises : AllRise old.own written
+  pub climbs : Climb old.least notes new.least
+  pub holds : Holds old.history old.own → Holds new.history new.own
   pub accounts : Accounts new.history room requests notes written output
 
 -- A session over a store: the requests that it read, what became of the store by them, and what was sent.

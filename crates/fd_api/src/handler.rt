@@ -7,7 +7,7 @@ ghost use Rattle.fd_api.specs.Replies.{IsReply, done, refusal, not_allowed, shor
 ghost use Rattle.fd_api.specs.Effects.{Does, Handles};
 
 use crate::demands::decide;
-use crate::{SmallBatch, Demand, Note};
+use crate::{Demand, Note, SmallBatch};
 use fd_http::{Method, Request, Response};
 use fd_json::{Fault, answer_text, fault_text, number_text, stand_text};
 use fd_kinds::{Bytes, NoMemory, Query, ReadRefusal, Store, WriteRefusal};

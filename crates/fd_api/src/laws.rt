@@ -10,7 +10,8 @@ ghost use Rattle.fd_kinds.specs.History.{LocalView, Writes, Reads, Stands};
 use fd_kinds::Store;
 
 /// What a run of requests tells of any store: its history only grows, what was written through
-/// it gains exactly the batches of the notes, and each note fits the history in the end.
+/// it gains exactly the batches of the notes under rising numbers, told watermarks never fall, and
+/// each note fits the history in the end.
 pub fn run_laws<T: Store>(_store: &T)
     ensures { (old : T) → (room : ℕ) → (requests : List Request) → (notes : List Note) → (new : T)
         → (output : List ℕ)
@@ -28,6 +29,6 @@ pub fn alone_laws()
     ensures session { (left_old left_new taken_old taken_new : Option (List ℕ)) → (before now : ℕ)
         → (old : LocalView) → (notes : List Note) → (new : LocalView) → (end : EndKind)
         → Ends Writes Reads Stands
-            left_old left_new taken_old taken_new before now old notes new end
+        left_old left_new taken_old taken_new before now old notes new end
         → AloneSessionRan left_old left_new taken_old taken_new before now old notes new end }
 {}

@@ -261,8 +261,8 @@ fn serve<T: Store, S: Source, K: Sink>(
 /// Handles the requests of a source in order, and writes each reply before it reads on.
 ///
 /// By what any store tells of its calls, the history only grows, what was written through the store
-/// gains exactly the batches of the notes, in order, and each note with its reply fits the history
-/// in the end.
+/// gains exactly the batches of the notes, in order and under rising numbers, told watermarks never
+/// fall, and each note with its reply fits the history in the end.
 pub fn session<T: Store, S: Source, K: Sink>(
     alloc: Global,
     store: &mut T,

@@ -21,6 +21,12 @@ returns-in-Some-clause-ends g c =
     rw c.into_items-in-Some.ensures
     (turn_ends g.T.Store.write_gives g.T.Store.read_gives g.T.Store.stand_gives _ _ _ _ _ _ _ _ _ _ _ c.loop-served.invariant.sink _ _ _ _ _ _ c.loop-served.invariant.so_far some _ c.in-Some.end (last_of c.loop-served.served below) c.in-Some.ensures.turned).0
 
+pub returns-in-Some-clause-sink : goal.returns-in-Some-clause-sink
+returns-in-Some-clause-sink g c =
+    let below : c.loop-served.served < 100000 = c.loop-served-test.true in
+    let some : 0 < 100000 - c.loop-served.served = omega arith in
+    (turn_ends g.T.Store.write_gives g.T.Store.read_gives g.T.Store.stand_gives _ _ _ _ _ _ _ _ _ _ _ c.loop-served.invariant.sink _ _ _ _ _ _ c.loop-served.invariant.so_far some _ c.in-Some.end (last_of c.loop-served.served below) c.in-Some.ensures.turned).1
+
 pub loop-served-preserved : goal.loop-served-preserved
 loop-served-preserved g c =
     let below : c.loop-served.served < 100000 = c.loop-served-test.true in
