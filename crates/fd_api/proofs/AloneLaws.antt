@@ -1,5 +1,5 @@
 -- What a run over a store that nobody else writes tells, by induction over its requests.
-use Rattle.std.proofs.Common.{◌≡◌, ◌⊎◌, ℕ, ◌+◌, ◌-◌, List, [], ◌∷◌, ◌++◌, length, Result, Ok, Err, refl, sym, ap, ◌∙◌, subst, arith, append_assoc, length-append, inl, inr}
+use Rattle.std.proofs.Common.{◌≡◌, ℕ, ◌+◌, ◌-◌, List, [], ◌∷◌, ◌++◌, length, Result, Ok, Err, sym, ap, ◌∙◌, subst, arith, append_assoc, length-append, inl, inr}
 use Rattle.std.proofs.lemmas.List.{append_cancel_left, append-nil}
 use Rattle.fd_kinds.specs.History.{History, LocalView, history_of, count_of, Adds, Writes, Reads, Stands}
 use Rattle.fd_kinds.specs.declared.row.Row.{Row}
@@ -16,12 +16,12 @@ use Rattle.fd_http.specs.declared.replies.Response.{Response}
 use Rattle.fd_api.specs.declared.demand.Demand.{Demand}
 use Rattle.fd_api.specs.declared.demand.Demand.TheVariants as asked
 use Rattle.fd_api.specs.declared.note.Note.{Note}
-use Rattle.fd_api.specs.declared.note.Note.TheVariants.{Read, Wrote, Stood, NotDrawn, Spent, Refused, Faulted, Short}
+use Rattle.fd_api.specs.declared.note.Note.TheVariants.{Read, Stood, NotDrawn, Spent, Refused, Faulted, Short}
 use Rattle.fd_api.specs.Effects.{TellsWrite, TellsRead, Does, Handles}
 use Rattle.std.specs.declared.option.Option.{Option}
 use Rattle.fd_api.specs.declared.sessions.EndKind.{EndKind}
 use Rattle.fd_api.specs.Sessions.{MOST_REQUESTS, Runs, Ends}
-use Rattle.fd_api.specs.Accounts.{Ran, Accounts}
+use Rattle.fd_api.specs.Accounts.{Accounts}
 use Rattle.fd_api.specs.Alone.{Exact, AloneRan, AloneSessionRan}
 use Rattle.fd_api.proofs.RunLaws.{runs}
 

@@ -1,5 +1,5 @@
 -- The requests that were read so far: what a loop over them keeps, and how it ends.
-use Rattle.std.proofs.Common.{ℕ, ◌≡◌, ◌<◌, ◌-◌, List, [], ◌∷◌, ◌++◌, None, Some, length, take, drop, Ok, subst, sym, refl, ap, ◌∙◌, arith, append_assoc, length-append, ◌⊎◌, inl, inr}
+use Rattle.std.proofs.Common.{ℕ, ◌≡◌, ◌<◌, ◌-◌, List, [], ◌∷◌, ◌++◌, None, Some, Ok, subst, sym, refl, ap, ◌∙◌, arith, append_assoc, length-append, ◌⊎◌, inl, inr}
 use Rattle.std.specs.Bool.{IsTrue, IsFalse}
 use Rattle.std.specs.declared.option.Option.{Option}
 use Rattle.std.proofs.lemmas.List.{append-nil, take-append-le, drop-append-le}

@@ -1,5 +1,5 @@
 -- What a whole run tells, by induction over its requests.
-use Rattle.std.proofs.Common.{◌≡◌, ◌⊎◌, ℕ, zero, suc, ◌+◌, ◌-◌, ◌<◌, ◌≤◌, Bool, List, [], ◌∷◌, ◌++◌, length, take, flat_map, Result, Ok, Err, refl, sym, ap, ◌∙◌, subst, arith, append_assoc, length-append, inl, inr, ⊎_elim}
+use Rattle.std.proofs.Common.{◌≡◌, ℕ, zero, suc, ◌+◌, ◌-◌, ◌≤◌, List, [], ◌∷◌, ◌++◌, length, take, flat_map, Result, Ok, Err, refl, sym, ap, ◌∙◌, subst, arith, append_assoc, length-append, inl, inr}
 use Rattle.std.proofs.lemmas.List.{append-nil}
 use Rattle.fd_kinds.specs.declared.row.Row.{Row}
 use Rattle.fd_kinds.specs.Meaning.{meaning}
@@ -11,22 +11,21 @@ use Rattle.fd_kinds.specs.declared.store.ReadRefusal.{ReadRefusal}
 use Rattle.fd_kinds.specs.declared.store.ReadRefusal.TheVariants as read
 use Rattle.fd_kinds.specs.declared.store.Seen.{Seen}
 use Rattle.fd_kinds.specs.declared.stand.Stand as kinds
-use Rattle.fd_kinds.specs.Stores.{Grows, Written, StoreView, Holds, Tops, WriteFacts, ReadFacts, StandFacts, own_after}
+use Rattle.fd_kinds.specs.Stores.{Grows, Written, StoreView, Holds, WriteFacts, ReadFacts, StandFacts}
 use Rattle.fd_api.specs.declared.small_batch.SmallBatch.{SmallBatch}
 use Rattle.fd_api.specs.declared.demand.Demand.{Demand}
 use Rattle.fd_api.specs.declared.demand.Demand.TheVariants as asked
 use Rattle.fd_http.specs.declared.request.Request.{Request}
 use Rattle.fd_http.specs.declared.replies.Response.{Response}
-use Rattle.fd_json.specs.declared.refusal.Fault.{Fault}
 use Rattle.fd_api.specs.declared.note.Note.{Note}
 use Rattle.fd_api.specs.declared.note.Note.TheVariants.{Read, Wrote, Stood, NotDrawn, Spent, Refused, Faulted, Short}
-use Rattle.fd_api.specs.Replies.{IsReply, IsSent, refusal, number_reply, answer_reply, stand_reply, short}
+use Rattle.fd_api.specs.Replies.{IsReply, answer_reply, stand_reply}
 use Rattle.fd_api.specs.Demands.{Asks}
-use Rattle.fd_api.specs.Effects.{TellsWrite, TellsRead, Does, Handles, GivesUp}
-use Rattle.fd_api.specs.Sessions.{MOST_REQUESTS, Serves, Runs, Ends, is_last}
+use Rattle.fd_api.specs.Effects.{TellsWrite, TellsRead, Does, Handles}
+use Rattle.fd_api.specs.Sessions.{MOST_REQUESTS, Runs, Ends}
 use Rattle.fd_api.specs.declared.sessions.EndKind.{EndKind}
 use Rattle.std.specs.declared.option.Option.{Option}
-use Rattle.fd_api.specs.Accounts.{Says, Fits, Accounts, AllRise, Climb, Ran, SessionRan}
+use Rattle.fd_api.specs.Accounts.{Says, Fits, AllRise, Climb, Ran, SessionRan}
 
 -- the first batches stay when more come behind them
 take_front : {A : Type 0} (w : ℕ) (xs ys : List A) → w ≤ length xs → take w (xs ++ ys) ≡ take w xs

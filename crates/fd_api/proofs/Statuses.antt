@@ -1,5 +1,5 @@
 -- The statuses of refusals are such as a reply may have.
-use Rattle.std.proofs.Common.{◌≡◌, ◌≢◌, ◌==◌, ◌||◌, ℕ, Bool, true, false, List, [], ◌∷◌, IsTrue, refl, inl, inr}
+use Rattle.std.proofs.Common.{◌≢◌, ◌==◌, ◌||◌, ℕ, true, false, [], ◌∷◌, IsTrue, refl, inl, inr}
 use Rattle.std.specs.List.{list_any}
 use Rattle.fd_http.specs.Replies.{is_made_status}
 use Rattle.fd_json.specs.Faults.{IsRefusalStatus}

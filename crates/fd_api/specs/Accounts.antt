@@ -1,7 +1,6 @@
 -- What a whole run tells, from what any store tells of its calls: of the history, of what was written, and of each note.
-use Rattle.std.specs.Prelude.{◌≡◌, ◌⊎◌, ℕ, ◌+◌, ◌-◌, ◌<◌, ◌≤◌, Bool, List, [], ◌∷◌, ◌++◌, length}
+use Rattle.std.specs.Prelude.{◌≡◌, ◌⊎◌, ℕ, ◌-◌, ◌<◌, ◌≤◌, List, [], ◌∷◌, ◌++◌, length}
 use Rattle.fd_kinds.specs.declared.query.Query.{Query}
-use Rattle.fd_kinds.specs.declared.stand.Stand as kinds
 use Rattle.fd_kinds.specs.History.{History, upto}
 use Rattle.fd_kinds.specs.declared.limits.TheConstants.{MOST_NUMBERS}
 use Rattle.fd_kinds.specs.Meaning.{meaning}

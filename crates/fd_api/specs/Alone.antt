@@ -1,5 +1,5 @@
 -- A run over a store that nobody else writes: its numbers are exact.
-use Rattle.std.specs.Prelude.{◌≡◌, ℕ, ◌+◌, List, [], ◌∷◌, ◌++◌, length}
+use Rattle.std.specs.Prelude.{◌≡◌, ℕ, ◌+◌, List, [], ◌∷◌, ◌++◌}
 use Rattle.fd_kinds.specs.History.{History, LocalView, history_of, count_of}
 use Rattle.fd_kinds.specs.Stores.{numbered_from}
 use Rattle.fd_http.specs.declared.request.Request.{Request}

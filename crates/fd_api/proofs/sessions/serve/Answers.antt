@@ -1,4 +1,4 @@
-use Rattle.std.proofs.Common.{rules, refl, ◌≡◌, ◌-◌, ◌<◌, ◌+◌, [], arith, ◌∙◌}
+use Rattle.std.proofs.Common.{rules, ◌≡◌, ◌-◌, ◌<◌, ◌+◌, [], arith, ◌∙◌}
 use Rattle.fd_api.proofs.SessionSteps.{none_yet, turn_ends, turn_goes_on, limit_ends, last_of, not_faulted}
 use Rattle.fd_api.proofs.sessions.serve.Goals as goal
 
