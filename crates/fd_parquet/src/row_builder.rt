@@ -50,6 +50,19 @@ impl RowBuilder {
         }
     }
 
+    /// The rows and one more behind them.
+    fn with_last(self, next: Numbered) -> Result<RowBuilder, NoMemory>
+        requires { next.number < 2 ^ 63 }
+        ensures { IfOk result (λ all. all ≡ self ++ next ∷ []) }
+    {
+        let RowBuilder { rows, last: _ } = self;
+        let rows = rows.with_row(&next)?;
+        Ok(RowBuilder {
+            rows,
+            last: Some(next),
+        })
+    }
+
     /// The rows and one more, none where that may not stand behind them.
     pub(crate) fn with_next(self, next: Numbered) -> Result<Option<RowBuilder>, NoMemory>
         requires { next.number < 2 ^ 63 }
@@ -62,12 +75,7 @@ impl RowBuilder {
         if !self.may_take(&next) {
             return Ok(None);
         }
-        let RowBuilder { rows, last: _ } = self;
-        let rows = rows.with_row(&next)?;
-        Ok(Some(RowBuilder {
-            rows,
-            last: Some(next),
-        }))
+        Ok(Some(self.with_last(next)?))
     }
 
     /// The part of these rows.

@@ -1,4 +1,5 @@
 pub mod BatchSizes
 pub mod FaultLaws
 pub mod Orders
+pub mod RangeLaws
 pub mod Sums

@@ -1,7 +1,7 @@
 -- What a part means.
 use Rattle.fd_kinds.specs.Parts.{PartMeaning, IsPart, loose_part}
 use Rattle.fd_kinds.proofs.PartLaws.{loose_part_is_part}
-use Rattle.fd_part.specs.Ranges.{sealed_part}
+use Rattle.fd_part.specs.Ranges.{meaning_of}
 use Rattle.fd_part.specs.declared.sealed_range.SealedRange.{SealedRange}
 use Rattle.fd_part.specs.declared.part.Form.{Form}
 use Rattle.fd_part.specs.declared.part.Form.TheVariants.{Loose, Sealed}
@@ -9,7 +9,7 @@ use Rattle.fd_part.specs.declared.part.Part.{Part}
 
 -- the rows of a range are a sealed part
 abbrev pub range_meaning : SealedRange → PartMeaning
-range_meaning range = sealed_part range.lo range.hi range.columns
+range_meaning range = meaning_of range.rows
 
 -- a loose part of one batch with its number, or the rows of a range with their file
 abbrev pub form_meaning : Form → PartMeaning
@@ -22,4 +22,4 @@ part_meaning part = form_meaning part.form
 -- the rows of each form lie in its range
 pub form_is_part : (form : Form) → IsPart (form_meaning form)
 form_is_part (Loose number columns) = loose_part_is_part number columns
-form_is_part (Sealed range) = record { ordered = range.filed.filed.range; within = range.filed.filed.within; one_number = λ h. cc }
+form_is_part (Sealed range) = range.in_range

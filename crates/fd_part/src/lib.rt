@@ -14,6 +14,7 @@
 mod batch_columns;
 mod batch_sizes;
 mod part;
+mod range_file;
 mod sealed_range;
 
 pub use part::Part;

@@ -109,7 +109,7 @@ impl Part {
     {
         match &self.form {
             Form::Loose { columns, .. } => Ok(columns.bytes() <= MOST_BATCH),
-            Form::Sealed(range) => has_small_batches(range.file.allocator(), &range.columns),
+            Form::Sealed(range) => has_small_batches(range.rows.allocator(), range.rows.columns()),
         }
     }
 
@@ -120,7 +120,7 @@ impl Part {
     {
         match &self.form {
             Form::Loose { number, columns } => columns.numbered(*number),
-            Form::Sealed(range) => range.columns.share(),
+            Form::Sealed(range) => range.rows.columns().share(),
         }
     }
 
@@ -131,7 +131,7 @@ impl Part {
     {
         match &self.form {
             Form::Loose { columns, .. } => columns.columns(),
-            Form::Sealed(range) => &range.columns,
+            Form::Sealed(range) => range.rows.columns(),
         }
     }
 
@@ -148,7 +148,7 @@ impl Part {
     {
         match &self.form {
             Form::Loose { .. } => None,
-            Form::Sealed(range) => Some(range.file.as_slice()),
+            Form::Sealed(range) => Some(range.rows.file()),
         }
     }
 }
@@ -163,14 +163,14 @@ impl Held for Part {
     fn lo(&self) -> u64 {
         match &self.form {
             Form::Loose { number, .. } => *number,
-            Form::Sealed(range) => range.lo,
+            Form::Sealed(range) => range.rows.lo(),
         }
     }
 
     fn hi(&self) -> u64 {
         match &self.form {
             Form::Loose { number, .. } => *number,
-            Form::Sealed(range) => range.hi,
+            Form::Sealed(range) => range.rows.hi(),
         }
     }
 
@@ -185,7 +185,7 @@ impl Held for Part {
     fn rows(&self) -> u64 {
         match &self.form {
             Form::Loose { columns, .. } => columns.len() as u64,
-            Form::Sealed(range) => range.columns.len() as u64,
+            Form::Sealed(range) => range.rows.columns().len() as u64,
         }
     }
 
@@ -193,7 +193,7 @@ impl Held for Part {
     fn bytes(&self) -> u64 {
         match &self.form {
             Form::Loose { columns, .. } => columns.bytes(),
-            Form::Sealed(range) => range.bytes,
+            Form::Sealed(range) => range.rows.bytes(),
         }
     }
 

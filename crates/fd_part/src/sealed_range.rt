@@ -1,66 +1,37 @@
-ghost use Rattle.std.specs.Prelude.{◌≡◌, ◌≤◌, ◌<◌, ◌+◌, ◌^◌, take, length, All, IfOk};
-ghost use Rattle.std.specs.Arc.{arc_value};
-ghost use Rattle.fd_kinds.specs.Parts.{IsWithin, held_bytes};
+ghost use Rattle.std.specs.Prelude.{◌≡◌, ◌≤◌, ◌<◌, ◌^◌, All, IfOk};
+ghost use Rattle.fd_kinds.specs.Parts.{IsPart, IsWithin};
 ghost use Rattle.fd_footer.specs.declared.footer.Pages.TheVariants.{Plain};
 ghost use Rattle.fd_table_file.specs.Files.{IsSmall, IsFileOf};
-ghost use Rattle.fd_part.specs.Ranges.{IsFiled, sealed_part};
+ghost use Rattle.fd_part.specs.Ranges.{meaning_of, sealed_part};
 
-use fd_column::{ColumnPart, Columns};
-use fd_kinds::{Bytes, NoMemory, row_bytes};
-use fd_parquet::write_file;
-use std::sync::Arc;
+use crate::range_file::RangeFile;
+use fd_column::ColumnPart;
+use fd_kinds::{Bytes, NoMemory};
 
-/// The rows of a range of numbers by columns, with their file and their bytes. Rows and file are
-/// shared, and never changed.
+/// Rows with their file, whose numbers lie in the range. That they do is known of every value, as
+/// a part owes it.
 #[derive(Debug, Drop)]
 pub struct SealedRange {
-    pub lo: u64,
-    pub hi: u64,
-    pub columns: ColumnPart,
-    pub bytes: u64,
-    pub file: Arc<Bytes>,
-    ghost filed: { IsFiled (arc_value file) columns lo hi bytes },
-}
-
-/// The bytes of the rows before a place and of the row there.
-#[tactic(auto, using(crate::proofs::Sums::held_more))]
-fn with_row(sum: u64, table: &ColumnPart, at: usize) -> Result<u64, NoMemory>
-    requires inside { at < length table.now }
-    requires sum { sum ≡ held_bytes (take at table.now) }
-    ensures { IfOk result (λ more. more ≡ held_bytes (take (at + 1) table.now)) }
-{
-    let row = table.row(at)?;
-    Ok(sum.saturating_add(row_bytes(&row.row)))
-}
-
-/// The bytes of the rows as the log spells them, and 2^64 - 1 where they are more.
-fn sum_of(table: &ColumnPart) -> Result<u64, NoMemory>
-    ensures { IfOk result (λ sum. sum ≡ held_bytes table.now) }
-{
-    let mut sum = 0u64;
-    for at in 0..table.len() {
-        sum = with_row(sum, table, at)?;
-    }
-    Ok(sum)
+    pub rows: RangeFile,
+    ghost in_range: { IsPart (meaning_of rows) },
 }
 
 impl SealedRange {
-    ghost use Rattle.fd_part.specs.Parts.{range_meaning};
-
     /// The rows of a table, whose numbers lie from `lo` to `hi`. The table is not copied.
+    #[tactic(auto, using(crate::proofs::RangeLaws::sealed_part_is_part))]
     pub fn of(table: &ColumnPart, lo: u64, hi: u64) -> Result<SealedRange, NoMemory>
         requires range { lo ≤ hi }
         requires below { hi < 2 ^ 63 }
         requires within { All (IsWithin lo hi) table.now }
         requires small { IsSmall table.now }
-        ensures { IfOk result (λ range. range_meaning range ≡ sealed_part lo hi table.now) }
+        ensures { IfOk result (λ range. meaning_of range.rows ≡ sealed_part lo hi table.now) }
     {
-        let file = write_file(table, lo, hi)?;
-        let columns = table.share()?;
-        SealedRange::with_file(columns, lo, hi, file)
+        let rows = RangeFile::of(table, lo, hi)?;
+        Ok(SealedRange { rows })
     }
 
     /// The rows with their file, neither of which is copied.
+    #[tactic(auto, using(crate::proofs::RangeLaws::file_is_part))]
     pub fn with_file(
         columns: ColumnPart,
         lo: u64,
@@ -68,29 +39,17 @@ impl SealedRange {
         file: Bytes,
     ) -> Result<SealedRange, NoMemory>
         requires { IsFileOf Plain file columns lo hi }
-        ensures { IfOk result (λ range. range_meaning range ≡ sealed_part lo hi columns) }
+        ensures { IfOk result (λ range. meaning_of range.rows ≡ sealed_part lo hi columns) }
     {
-        let bytes = sum_of(&columns)?;
-        let file = Arc::new(file.allocator(), file)?;
-        Ok(SealedRange {
-            lo,
-            hi,
-            columns,
-            bytes,
-            file,
-        })
+        let rows = RangeFile::with_file(columns, lo, hi, file)?;
+        Ok(SealedRange { rows })
     }
 
     /// The same rows and file, which cost no copy.
     pub fn share(&self) -> Result<SealedRange, NoMemory>
-        ensures { IfOk result (λ copy. range_meaning copy ≡ range_meaning self.now) }
+        ensures { IfOk result (λ copy. copy.rows ≡ self.now.rows) }
     {
-        Ok(SealedRange {
-            lo: self.lo,
-            hi: self.hi,
-            columns: self.columns.share()?,
-            bytes: self.bytes,
-            file: self.file.clone()?,
-        })
+        let rows = self.rows.share()?;
+        Ok(SealedRange { rows })
     }
 }

@@ -1,7 +1,9 @@
-use Rattle.std.proofs.Common.{IfOk, sym, subst}
+use Rattle.std.proofs.Common.{IfOk, List, sym, subst}
 use Rattle.std.specs.Prelude.{◌↔◌, IsTrue, nat_le}
 use Rattle.fd_shelf.specs.Books.{HasSmallBatches, MOST_BATCH}
+use Rattle.fd_kinds.specs.declared.row.Numbered.{Numbered}
 use Rattle.fd_part.specs.Parts.{form_meaning}
+use Rattle.fd_part.specs.Sizes.{AreSmallBatches}
 use Rattle.fd_part.specs.declared.part.Form.{Form}
 use Rattle.fd_part.proofs.BatchSizes.{one_small}
 use Rattle.fd_part.proofs.part.Part.has_small_batches.Goals as goal
@@ -14,4 +16,4 @@ returns-in-Loose c =
 pub returns-in-Sealed : goal.returns-in-Sealed
 returns-in-Sealed c =
     subst (λ (form : Form). IfOk c.has_small_batches.result (λ small. IsTrue small ↔ HasSmallBatches (form_meaning form))) (sym c.in-Sealed.is)
-    c.has_small_batches.ensures
+    (subst (λ (rows : List Numbered). IfOk c.has_small_batches.result (λ small. IsTrue small ↔ AreSmallBatches rows)) c.columns.ensures c.has_small_batches.ensures)

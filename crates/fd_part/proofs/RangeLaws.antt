@@ -1,0 +1,13 @@
+-- Rows of a range are a part.
+use Rattle.std.specs.Prelude.{ℕ, ◌≤◌, List, All}
+use Rattle.fd_kinds.specs.declared.row.Numbered.{Numbered}
+use Rattle.fd_kinds.specs.Parts.{IsPart, IsWithin}
+use Rattle.fd_table_file.specs.Files.{IsPlainFileOf}
+use Rattle.fd_part.specs.Ranges.{sealed_part}
+
+pub sealed_part_is_part : (lo hi : ℕ) (rows : List Numbered) → lo ≤ hi → All (IsWithin lo hi) rows → IsPart (sealed_part lo hi rows)
+sealed_part_is_part lo hi rows ordered within = record { ordered = ordered; within = within; one_number = λ h. cc }
+
+-- the rows of a file lie in its range
+pub file_is_part : (file : List ℕ) (rows : List Numbered) (lo hi : ℕ) → IsPlainFileOf file rows lo hi → IsPart (sealed_part lo hi rows)
+file_is_part file rows lo hi is = sealed_part_is_part lo hi rows is.range is.within
