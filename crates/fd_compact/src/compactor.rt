@@ -1,4 +1,4 @@
-ghost use Rattle.std.specs.Prelude.{◌≡◌, ℕ, ◌≤◌, ◌<◌, length, map, IfOk, OnErr, Ok, None};
+ghost use Rattle.std.specs.Prelude.{◌≡◌, ℕ, ◌≤◌, ◌<◌, length, map, IfOk, OnOk, OnErr, Ok, None};
 ghost use Rattle.fd_part.specs.Parts.{part_meaning};
 ghost use Rattle.fd_shelf.specs.Books.{IsSealed, all_parts};
 ghost use Rattle.fd_shelf.specs.Histories.{hist};
@@ -86,6 +86,7 @@ pub fn compact_full(shelf: &mut Shelf<Part>) -> Result<Option<Compaction>, NoMem
     // Exactly fewer than 16 parts stay, which takes no memory; else all are compacted.
     ensures compacts { IfOk result (λ done. CompactsFull shelf.old done shelf.new) }
     ensures few { length (loose_parts shelf.old) < 16 → result ≡ Ok None }
+    ensures fewer { OnOk result (length (loose_parts shelf.new) < 16) }
     ensures unchanged { OnErr result (shelf.new ≡ shelf.old) }
 
     // No batch is changed, and all else stays.
