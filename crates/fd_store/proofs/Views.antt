@@ -1,6 +1,6 @@
 -- What a store is seen as: its history, cut behind the batches that it was opened with.
-use Rattle.std.specs.Prelude.{◌≡◌, ℕ, zero, suc, ◌+◌, ◌≤◌, ◌<◌, ◌^◌, Bool, false, List, [], ◌∷◌, ◌++◌, take, drop, length, refl, Ok, Result}
-use Rattle.std.proofs.Common.{arith, ap, sym, ◌∙◌}
+use Rattle.std.specs.Prelude.{◌≡◌, ℕ, zero, suc, ◌+◌, ◌≤◌, ◌<◌, ◌^◌, Bool, false, List, [], ◌∷◌, ◌++◌, take, drop, length, refl, Ok, Err, Result, OnOk, is_err}
+use Rattle.std.proofs.Common.{arith, ap, sym, ◌∙◌, true≢false}
 use Rattle.fd_kinds.specs.declared.row.Row.{Row}
 use Rattle.fd_kinds.specs.declared.store.WriteRefusal.{WriteRefusal}
 use Rattle.fd_kinds.specs.History.{History, LocalView, IsOpened, Adds, Writes, history_of}
@@ -50,3 +50,8 @@ adds opened history gained loose old_loose wanting old_wanting rows old is below
 -- the history of the view is the store's
 pub history_is : (opened : ℕ) (history : History) (loose : ℕ) (wanting : Bool) (old : LocalView) → view_of opened history loose wanting ≡ old → history_of old ≡ history
 history_is opened history loose wanting old is = ap history_of (sym is) ∙ joined opened history
+
+-- what is so after success, where the answer is told to be one
+pub few_left : {A E : Type 0} {P : Type 0} (result : Result A E) → is_err result ≡ false → OnOk result P → P
+few_left (Ok a) told held = held
+few_left (Err e) told held = absurd (true≢false told)

@@ -1,4 +1,5 @@
-ghost use Rattle.std.specs.Prelude.{◌≡◌, ◌<◌, ◌≤◌, ◌+◌, ◌^◌, [], ◌∷◌, ◌++◌, length, map, filter, IfOk};
+ghost use Rattle.std.specs.Prelude.{◌≡◌, ◌<◌, ◌≤◌, ◌+◌, ◌^◌, [], ◌∷◌, ◌++◌, length};
+ghost use Rattle.std.specs.Prelude.{map, filter, IfOk};
 ghost use Rattle.fd_kinds.specs.History.{IsOpened, history_of};
 ghost use Rattle.fd_kinds.specs.Parts.{rows_of};
 ghost use Rattle.fd_shelf.specs.Books.{IsLoose, settled_parts, bytes_of, MOST_BATCH};
@@ -16,8 +17,8 @@ use fd_part::Part;
 use fd_shelf::{Picked, Shelf};
 use std::marker::Model;
 
-/// A store in memory that nobody shares. Contracts see it as the history that it was opened with and
-/// the batches that were added to it: batch n of both, one behind the other, has the number n.
+/// A store in memory that nobody shares. Contracts see it as the history that it was opened with
+/// and the batches that were added to it: batch n of both, one behind the other, has the number n.
 #[derive(Debug, Drop)]
 pub struct Local {
     shelf: Shelf<Part>,
@@ -36,10 +37,10 @@ impl Model for Local {
     ghost Value = { LocalView };
 
     ghost view = { λ s. record {
-        opening = take s.opened (hist s.shelf.book s.shelf.mark);
-        added = drop s.opened (hist s.shelf.book s.shelf.mark);
-        loose = length (filter is_loose s.shelf.book.active);
-        wanting = s.wanting;
+      opening = take s.opened (hist s.shelf.book s.shelf.mark);
+      added = drop s.opened (hist s.shelf.book s.shelf.mark);
+      loose = length (filter is_loose s.shelf.book.active);
+      wanting = s.wanting;
     } };
 
     ghost invariant = { λ s. (s.shelf.book.stragglers ≡ []) × (s.opened ≤ s.shelf.mark) };
@@ -55,7 +56,9 @@ fn add(shelf: &mut Shelf<Part>, part: Part)
     requires spare { 0 < shelf.old.spare }
     ensures alone { shelf.new.book.stragglers ≡ [] }
     ensures mark { shelf.new.mark ≡ shelf.old.mark + 1 }
-    ensures history { hist shelf.new.book shelf.new.mark ≡ hist shelf.old.book shelf.old.mark ++ in_row_order (rows_of (part_meaning part).rows) ∷ [] }
+    ensures history { hist shelf.new.book shelf.new.mark
+        ≡ hist shelf.old.book shelf.old.mark
+        ++ in_row_order (rows_of (part_meaning part).rows) ∷ [] }
 {
     let mut part = part;
     part.number(shelf.mark() + 1);
@@ -75,7 +78,8 @@ fn drawn(shelf: &Shelf<Part>) -> u64
 /// Shares of all parts, in order.
 #[tactic(auto, using(crate::proofs::ShelfHistory::upto_mark))]
 fn all_parts(shelf: &Shelf<Part>) -> Result<Picked<Part>, NoMemory>
-    ensures { IfOk result (λ picked. map (λ i. part_meaning i.part) picked ≡ settled_parts shelf.now.book) }
+    ensures { IfOk result (λ picked.
+        map (λ i. part_meaning i.part) picked ≡ settled_parts shelf.now.book) }
 {
     shelf.is_in_order();
     shelf.parts_upto(shelf.mark())
