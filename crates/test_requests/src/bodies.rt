@@ -1,11 +1,11 @@
 use fd_json::{BodyFault, read_body};
-use fd_kinds::{NoMemory, RawBody, RawSeries};
+use fd_kinds::{Bytes, NoMemory, RawBody, RawSeries};
 use fixtures::{BODY, are_pairs, profile};
 use std::alloc::Global;
 use std::test::Fail;
 
 fn read(alloc: Global, text: &[u8]) -> Result<RawBody, BodyFault> {
-    read_body(alloc, text)
+    read_body(alloc, Bytes::from_slice(alloc, text)?)
 }
 
 /// Whether the series has the labels of the one write, and this profile.
