@@ -30,4 +30,3 @@ pub use intake::next_request;
 pub use laws::split_laws;
 pub use replies::{Method, Response, SendFault, reply};
 pub use request::{Arrived, Request, RequestFault};
-

@@ -1,6 +1,6 @@
 -- A run of the program: its words, its session, its status and the line on the error sink.
 use Rattle.std.specs.Prelude.{◌≡◌, ℕ, ◌++◌, ◌∷◌, [], ◌⊎◌, List, Option, codes}
-use Rattle.std.specs.Io.KnownBytes.{Keeps, Appends}
+use Rattle.std.specs.Io.KnownBytes.{Appends}
 use Rattle.fd_lists.specs.Counts.{Rose}
 use Rattle.fd_kinds.specs.History.{LocalView, IsOpened, Writes, Reads, Stands}
 use Rattle.fd_http.specs.Replies.{AppendsFront}

@@ -37,15 +37,15 @@ pub fn run<S: Source, K: Sink, E: Sink>(
     ensures words { (result ≡ 1) ↔ (words.now ≢ session_words) }
     ensures refused { words.now ≢ session_words → (input.new ≡ input.old) × (out.new ≡ out.old)
         × Tells (E.taken err.old) (E.taken err.new) (E.faults err.old) (E.faults err.new)
-            bad_words }
+        bad_words }
 
     // Else the session comes to an end, of which the status and the line on the error sink tell.
     ensures session { words.now ≡ session_words → (end : EndKind)
         × RunsSession (S.left input.old) (S.left input.new) (K.taken out.old) (K.taken out.new)
-            (S.faults input.old) (S.faults input.new) (K.faults out.old) (K.faults out.new) end
+        (S.faults input.old) (S.faults input.new) (K.faults out.old) (K.faults out.new) end
         × (result ≡ status_of end)
         × Tells (E.taken err.old) (E.taken err.new) (E.faults err.old) (E.faults err.new)
-            (line_of end) }
+        (line_of end) }
 
     // A store in memory has no disk that fails.
     ensures memory { result ≢ 5 }

@@ -1,5 +1,5 @@
 -- The stages of reading a file, and what each answers: its frame, its footer, the cells of its columns, their rows, and the file as a whole.
-use Rattle.std.specs.Prelude.{◌≡◌, ℕ, ◌+◌, ◌-◌, ◌≤◌, ◌<◌, ◌^◌, ◌⊎◌, true, false, ℤ, pos, negsuc, List, [], ◌++◌, length, map, take, All, IsUtf8, IsSorted, Some, None, Result, Ok, Err}
+use Rattle.std.specs.Prelude.{◌≡◌, ℕ, ◌+◌, ◌≤◌, ◌<◌, ◌^◌, ◌⊎◌, true, false, ℤ, pos, negsuc, List, [], ◌++◌, length, map, take, All, IsUtf8, IsSorted, Some, None, Result, Ok, Err}
 use Rattle.std.specs.List.{concat, AllZip}
 use Rattle.fd_kinds.specs.declared.row.Numbered.{Numbered}
 use Rattle.fd_thrift.specs.Values.{Value}

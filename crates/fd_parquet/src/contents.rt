@@ -13,15 +13,7 @@ fn is_text(required: bool, bytes: &[u8]) -> bool
     (required || !bytes.is_empty()) && str::from_utf8(bytes).is_ok()
 }
 
-#[tactic(
-    auto,
-    using(
-        crate::proofs::StackFrames::no_short_frame,
-        crate::proofs::StackFrames::no_long_frame,
-        crate::proofs::StackFrames::frame_there,
-        crate::proofs::StackFrames::shorter_behind
-    )
-)]
+#[tactic(auto, using(crate::proofs::StackFrames::no_short_frame, crate::proofs::StackFrames::no_long_frame, crate::proofs::StackFrames::frame_there, crate::proofs::StackFrames::shorter_behind))]
 /// The frame in front of the bytes, and the bytes behind it.
 fn frame_in(bytes: &[u8]) -> Option<(&[u8], &[u8])>
     ensures found { IfSome result (λ r. bytes.now ≡ frame_bytes r.0.now ++ r.1.now) }
@@ -41,15 +33,7 @@ fn frame_in(bytes: &[u8]) -> Option<(&[u8], &[u8])>
     Some(rest.split_at(length))
 }
 
-#[tactic(
-    auto,
-    using(
-        crate::proofs::StackFrames::stack_none,
-        crate::proofs::StackFrames::stack_more,
-        crate::proofs::StackFrames::stack_less,
-        crate::proofs::StackFrames::stack_begun
-    )
-)]
+#[tactic(auto, using(crate::proofs::StackFrames::stack_none, crate::proofs::StackFrames::stack_more, crate::proofs::StackFrames::stack_less, crate::proofs::StackFrames::stack_begun))]
 /// Whether bytes are frames of text, each behind its length.
 fn is_stack(bytes: &[u8]) -> bool
     ensures { Decides result (IsStack bytes.now) }

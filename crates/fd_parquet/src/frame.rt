@@ -22,15 +22,7 @@ fn before<'a>(bytes: &'a [u8], suffix: &[u8]) -> Option<&'a [u8]>
     bytes.strip_suffix(suffix)
 }
 
-#[tactic(
-    auto,
-    using(
-        crate::proofs::MagicLaws::inner_there,
-        crate::proofs::MagicLaws::no_first,
-        crate::proofs::MagicLaws::no_last,
-        crate::proofs::MagicLaws::too_short
-    )
-)]
+#[tactic(auto, using(crate::proofs::MagicLaws::inner_there, crate::proofs::MagicLaws::no_first, crate::proofs::MagicLaws::no_last, crate::proofs::MagicLaws::too_short))]
 /// What stands between the two magics, of four bytes at least.
 fn inner(bytes: &[u8]) -> Option<&[u8]>
     ensures found { IfSome result (λ r. HasInner bytes.now r.now) }

@@ -5,8 +5,7 @@ use fd_device::{Sink, StdSink, StdSource};
 use fd_kinds::{NoMemory, Text, Texts};
 use fd_local::run;
 use std::env::{self, Env};
-use std::io::ErrorKind;
-use std::io::{Read, Write};
+use std::io::{ErrorKind, Read, Write};
 
 const NO_MEMORY: u8 = 7;
 

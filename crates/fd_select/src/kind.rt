@@ -18,7 +18,7 @@ fn next_part(text: &str) -> Option<(&str, &str)>
 fn unit_part(text: &str) -> Option<(&str, bool)>
     ensures { MatchOption result
         ((unit : List ℕ) (delta : Bool)
-            → parts_of text.now ≡ unit ∷ (if delta then codes "delta" ∷ [] else []) → ⊥)
+        → parts_of text.now ≡ unit ∷ (if delta then codes "delta" ∷ [] else []) → ⊥)
         (λ last. parts_of text.now ≡ last.0.now ∷ (if last.1 then codes "delta" ∷ [] else [])) }
 {
     let Some((unit, last)) = next_part(text) else {

@@ -1,9 +1,8 @@
 -- What a store is seen as: its history, cut behind the batches that it was opened with.
-use Rattle.std.specs.Prelude.{◌≡◌, ℕ, zero, suc, ◌+◌, ◌≤◌, ◌<◌, ◌^◌, Bool, false, List, [], ◌∷◌, ◌++◌, take, drop, length, refl, Ok, Err, Result, OnOk, is_err}
+use Rattle.std.specs.Prelude.{◌≡◌, ℕ, zero, suc, ◌≤◌, ◌<◌, Bool, false, List, [], ◌∷◌, ◌++◌, take, drop, length, refl, Ok, Err, Result, OnOk, is_err}
 use Rattle.std.proofs.Common.{arith, ap, sym, ◌∙◌, true≢false}
 use Rattle.fd_kinds.specs.declared.row.Row.{Row}
-use Rattle.fd_kinds.specs.declared.store.WriteRefusal.{WriteRefusal}
-use Rattle.fd_kinds.specs.History.{History, LocalView, IsOpened, Adds, Writes, history_of}
+use Rattle.fd_kinds.specs.History.{History, LocalView, IsOpened, Adds, history_of}
 
 -- the first batches and the others
 abbrev pub view_of : ℕ → History → ℕ → Bool → LocalView

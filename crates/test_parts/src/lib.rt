@@ -3,8 +3,8 @@
 #![tactic(auto)]
 
 #[cfg(test)]
-mod stub;
-#[cfg(test)]
 mod compactions;
 #[cfg(test)]
 mod shelves;
+#[cfg(test)]
+mod stub;
