@@ -4,7 +4,7 @@
 usage: tools/block_file.py OUT [PROGRAM [WRITES [SEED]]]
        tools/block_file.py --stored [--write]
     OUT: where the file goes, which tools/parquet_reader.py prints, and any other Parquet reader
-    PROGRAM: default crates/run_block_file/out/run_block_file, made by `rt run`; WRITES: 1 or more, default 12; SEED:
+    PROGRAM: default crates/run_block_file/out/run_block_file, made by `rt run`; WRITES: 2 to 16, default 12; SEED:
         default 1
     --stored says whether the stored run of crates/run_block_file is the session of made writes with the file of
     their rows, whose columns have two pages, and with --write makes it
@@ -39,8 +39,8 @@ from program import help_asked, program_of
 
 ROOT = pathlib.Path(__file__).resolve().parent.parent
 FOLDER = ROOT / 'crates/run_block_file'
-# More rows than a page has, of more writes than one compaction takes.
-STORED_SEED, STORED_WRITES, STORED_SERIES = 4, 18, 20
+# More rows than a page has, of no more writes than one compaction takes.
+STORED_SEED, STORED_WRITES, STORED_SERIES = 4, 15, 24
 # A write of a few rows with labels of both kinds.
 SMALL_SEED = 9
 # So many series a write, that pages are filled.
