@@ -260,10 +260,14 @@ fn a_session_takes_100_000_requests(rt: HostRuntime) -> Result<(), Fail> {
 
 /// A write of the longest body, and the head of one of a byte more.
 fn long_bodies(alloc: Global) -> Result<Bytes, NoMemory> {
-    let head = b"POST /profiles/writeraw HTTP/1.1\r\nContent-Length: 16777216\r\n\r\n{}";
-    let more = b"POST /profiles/writeraw HTTP/1.1\r\nContent-Length: 16777217\r\n\r\n{}";
-    let spaces = vec![in alloc; b' '; 16_777_214]?;
-    joined(alloc, &[head, spaces.as_slice(), more])
+    let spaces = repeated(alloc, b" ", 16_777_214)?;
+    let mut input = Bytes::from_slice(
+        alloc,
+        b"POST /profiles/writeraw HTTP/1.1\r\nContent-Length: 16777216\r\n\r\n{}",
+    )?;
+    input.extend(spaces.as_slice())?;
+    input.extend(b"POST /profiles/writeraw HTTP/1.1\r\nContent-Length: 16777217\r\n\r\n{}")?;
+    Ok(input)
 }
 
 #[test]
