@@ -3,7 +3,7 @@ ghost use Rattle.fd_shelf.specs.Books.{rows_in, all_parts};
 
 use crate::stub::{Stub, loose};
 use fd_kinds::{Held, NoMemory};
-use fd_shelf::{NotReplaced, Shelf, Span};
+use fd_shelf::{InBlock, NotReplaced, Picked, Shelf, Span};
 use std::alloc::Global;
 use std::test::Fail;
 
@@ -36,24 +36,30 @@ fn two_numbers(alloc: Global) -> Result<Shelf<Stub>, NoMemory>
     Ok(shelf)
 }
 
-/// Whether the shelf shares its first part alone up to the number 1.
-fn shares_the_first(shelf: &Shelf<Stub>) -> Result<bool, NoMemory> {
+/// What a shelf with the numbers 1 and 2 shares up to the number 1.
+fn shared_upto_one(alloc: Global) -> Result<Picked<Stub>, NoMemory> {
+    let mut shelf: Shelf<Stub> = Shelf::new(alloc);
+    shelf.reserve(2)?;
+    shelf.append(loose(1));
+    shelf.append(loose(2));
     shelf.is_in_order();
-    if shelf.mark() != 2 {
-        return Ok(false);
-    }
-    let picked = shelf.parts_upto(1)?;
-    Ok(match picked.as_slice() {
+    shelf.parts_upto(1)
+}
+
+/// Whether this is the part of the number 1 alone, in block 0.
+fn is_first(parts: &[InBlock<Stub>]) -> bool {
+    match parts {
         [one] => one.block == 0 && one.part.lo() == 1,
         _ => false,
-    })
+    }
 }
 
 #[test]
 fn a_shelf_tells_its_blocks_and_shares_its_parts(rt: HostRuntime) -> Result<(), Fail> {
     let shelf = two_numbers(rt.alloc())?;
-    assert!(rt; shelf.active() == 0 && shelf.next_block() == 0);
-    assert!(rt; shares_the_first(&shelf)?);
+    assert!(rt; shelf.active() == 0 && shelf.next_block() == 0 && shelf.mark() == 2);
+    let picked = shared_upto_one(rt.alloc())?;
+    assert!(rt; is_first(picked.as_slice()));
     Ok(())
 }
 
