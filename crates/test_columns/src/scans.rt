@@ -111,17 +111,21 @@ fn scan_rows(
     scan(query, part.cells(), gathered)
 }
 
-/// What was gathered of the rows of both parts.
-fn gathered(alloc: Global, query: &Query) -> Result<Gathered, NoMemory> {
+/// The answer over the rows of both parts. What was gathered is let go by `finish` alone, since a
+/// crate that drops it proves anew how its maps and sets are dropped.
+fn answer_of(alloc: Global, query: &Query) -> Result<Answer, NoMemory> {
     let mut gathered = Gathered::new(alloc, query)?;
-    scan_rows(alloc, query, &FIRST, &mut gathered)?;
-    scan_rows(alloc, query, &SECOND, &mut gathered)?;
-    Ok(gathered)
+    let first = scan_rows(alloc, query, &FIRST, &mut gathered);
+    let second = scan_rows(alloc, query, &SECOND, &mut gathered);
+    let answer = gathered.finish()?;
+    first?;
+    second?;
+    Ok(answer)
 }
 
 /// Whether the query has this answer over the rows of both parts.
 fn answers(alloc: Global, query: &Query, expected: &Answer) -> Result<bool, NoMemory> {
-    Ok(gathered(alloc, query)?.finish()? == *expected)
+    Ok(answer_of(alloc, query)? == *expected)
 }
 
 fn both_types(alloc: Global) -> Result<Answer, NoMemory> {
