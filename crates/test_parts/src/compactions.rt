@@ -169,11 +169,12 @@ fn a_file_of_no_rows_is_opened(rt: HostRuntime) -> Result<(), Fail> {
     Ok(())
 }
 
-/// Whether so many rows, each with a text that no other has, come back from their file.
+/// Whether so many rows, each with a text that no other has, come back from their file. The write
+/// without series comes first, since behind 65,536 rows a block takes no other batch.
 fn many_come_back(alloc: Global, rows: u32) -> Result<bool, NoMemory> {
     let profile = many_samples(alloc, rows)?;
     let write = write_of(alloc, profile.as_slice())?;
-    let requests = joined(alloc, &[write.as_slice(), EMPTY])?;
+    let requests = joined(alloc, &[EMPTY, write.as_slice()])?;
     comes_back(alloc, requests, u64::from(rows))
 }
 
