@@ -1,7 +1,6 @@
 ghost use Rattle.std.specs.Prelude.{◌≡◌, ◌++◌, [], IfOk};
 ghost use Rattle.std.specs.Option.{option_copied};
 ghost use Rattle.std.specs.List.{cons_option};
-ghost use Rattle.fd_kinds.specs.Labels.{are_labels as are_labels_pairs, is_before as is_before_pairs};
 ghost use Rattle.fd_column.specs.LabelColumns.{labels_from};
 ghost use Rattle.fd_parquet.specs.Rows.{behind as behind_prefix, pair_of, pairs_in, labels_in};
 
@@ -9,7 +8,7 @@ use crate::frame::behind;
 use crate::rows::bytes_at;
 use fd_column::text_of;
 use fd_footer::Column;
-use fd_kinds::{Items, Labels, NoMemory, Pair, Pairs, Text};
+use fd_kinds::{Items, Labels, NoMemory, Pair, Pairs};
 use fd_pages::CellList;
 use std::alloc::Global;
 
@@ -61,41 +60,17 @@ fn pairs_at(
     Ok(pairs)
 }
 
-/// Whether a name stands before the first of the pairs.
-fn is_before(name: &Text, pairs: &[Pair]) -> bool
-    ensures { result ≡ is_before_pairs name.now pairs.now }
-{
-    match pairs.first() {
-        Some(pair) => name.cmp(&pair.name).is_lt(),
-        None => true,
-    }
-}
-
-/// Whether the names rise strictly, and no value is empty.
-fn are_labels(pairs: &[Pair]) -> bool
-    ensures { result ≡ are_labels_pairs pairs.now }
-{
-    let mut rest = pairs;
-    while let Some((first, others)) = rest.split_first() {
-        if first.value.is_empty() || !is_before(&first.name, others) {
-            return false;
-        }
-        rest = others;
-    }
-    true
-}
-
 /// The labels of these pairs. Pairs that are out of order give none.
 #[tactic(auto, using(crate::proofs::PairLaws::labels_there, crate::proofs::PairLaws::no_labels))]
 fn labels_of(pairs: Pairs) -> Labels
     ensures { result ≡ labels_from pairs }
 {
-    if are_labels(pairs.as_slice()) {
-        Labels { pairs }
-    } else {
-        Labels {
-            pairs: Items::new(pairs.allocator()),
-        }
+    let alloc = pairs.allocator();
+    match Labels::checked(pairs) {
+        Some(labels) => labels,
+        None => Labels {
+            pairs: Items::new(alloc),
+        },
     }
 }
 
