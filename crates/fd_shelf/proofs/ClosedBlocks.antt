@@ -4,7 +4,7 @@ use Rattle.std.proofs.Common.{ap, ◌∙◌}
 use Rattle.std.proofs.lemmas.Option.{none-some}
 use Rattle.fd_kinds.specs.Parts.{PartMeaning}
 use Rattle.fd_shelf.specs.Books.{Book}
-use Rattle.fd_shelf.specs.Marks.{KeepsClosed}
+use Rattle.fd_shelf.specs.Numbers.{KeepsClosed}
 use Rattle.fd_shelf.specs.Steps.{is_full}
 
 -- the same closed blocks
@@ -17,7 +17,7 @@ closed_kept old new same block lo hi is =
       ends = is.ends;
     }
 
-front_kept : (closed : List (List PartMeaning)) (more : List (List PartMeaning)) (block : ℕ) (parts : List PartMeaning) → slice_get closed block ≡ Some parts → slice_get (closed ++ more) block ≡ Some parts
+pub front_kept : (closed : List (List PartMeaning)) (more : List (List PartMeaning)) (block : ℕ) (parts : List PartMeaning) → slice_get closed block ≡ Some parts → slice_get (closed ++ more) block ≡ Some parts
 front_kept [] more block parts here = absurd (none-some parts here)
 front_kept (b ∷ bs) more zero parts here = here
 front_kept (b ∷ bs) more (suc block) parts here = front_kept bs more block parts here

@@ -7,10 +7,12 @@ use Rattle.std.proofs.lemmas.List.Concat.{flat_map-cons}
 use Rattle.std.proofs.lemmas.Bool.{cases_lt}
 use Rattle.fd_kinds.specs.declared.row.Numbered.{Numbered}
 use Rattle.fd_kinds.specs.Parts.{PartMeaning, IsPart, IsWithin, rows_of}
-use Rattle.fd_shelf.specs.Books.{IsBook, Each, Follows, Waits, IsLoose, IsSealed, IsLight, SealedFirst, HasSmallBatches, MOST_BATCH, has_number, all_parts, rows_in, bytes_of}
+use Rattle.fd_shelf.specs.Books.{Each, Follows, Waits, IsLoose, IsSealed, IsLight, SealedFirst, HasSmallBatches, MOST_BATCH, has_number, all_parts, rows_in, bytes_of}
+use Rattle.fd_shelf.specs.Marks.{IsBook}
 use Rattle.fd_shelf.specs.Histories.{batch_at, batches_from, hist, in_row_order}
 use Rattle.fd_shelf.specs.Layout.{spliced}
 use Rattle.fd_shelf.specs.Replacement.{HasRowsOf, IsInOrder, IsRunAt, ends_below, begins_above, put_over}
+use Rattle.fd_shelf.proofs.BookEnds.{settled_upto, mark_bounded, waits_above, book_upto}
 use Rattle.fd_shelf.proofs.BookLaws.{each_append, each_front, each_back}
 use Rattle.fd_shelf.proofs.HistoryLaws.{none_below, rows_of_number, split_rows, first_rows, without}
 use Rattle.fd_shelf.proofs.Numbers.{same_in_order, same_in_range, same_bytes, same_count}
@@ -238,11 +240,11 @@ run_fits closed active stragglers mark lo hi at part book run is is_lo is_hi row
     let ordered = is.ordered in
     let whole : take at active ++ drop at active ≡ active = take-append-drop at active in
     let split : (flat ++ take at active) ++ drop at active ≡ flat ++ active = append_assoc flat (take at active) (drop at active) ∙ ap (λ ps. flat ++ ps) whole in
-    let meets = follows_split 1 mark (flat ++ take at active) (drop at active) (omega arith) (rw split book.settled) in
-    let settled_are = each_front IsPart (flat ++ active) stragglers book.parts in
+    let meets = follows_split 1 mark (flat ++ take at active) (drop at active) (omega arith) (rw split (settled_upto book)) in
+    let settled_are = each_front IsPart (flat ++ active) stragglers book.well_formed.parts in
     let are : Each IsPart ((flat ++ take at active) ++ drop at active) = rw split settled_are in
     let behind_are = each_back IsPart (flat ++ take at active) (drop at active) are in
-    let small : Each HasSmallBatches ((flat ++ take at active) ++ drop at active) = rw split (each_front HasSmallBatches (flat ++ active) stragglers book.small) in
+    let small : Each HasSmallBatches ((flat ++ take at active) ++ drop at active) = rw split (each_front HasSmallBatches (flat ++ active) stragglers book.well_formed.small) in
     let behind_small = each_back HasSmallBatches (flat ++ take at active) (drop at active) small in
     let both : take count (drop at active) ++ drop count (drop at active) ≡ drop at active = take-append-drop count (drop at active) in
     let cut_are : Each IsPart (take count (drop at active) ++ drop count (drop at active)) = rw both behind_are in
@@ -256,15 +258,15 @@ run_fits closed active stragglers mark lo hi at part book run is is_lo is_hi row
       between = rw is_lo (rw is_hi runs.0);
       behind = rw is_hi (rw (sym next) runs.1);
       bounded = rw is_hi run.bounded;
-      waits = book.waiting;
+      waits = waits_above book;
       front_are = each_front IsPart (flat ++ take at active) (drop at active) are;
       middle_are = each_front IsPart (take count (drop at active)) (drop count (drop at active)) cut_are;
       back_are = rw (sym next) (each_back IsPart (take count (drop at active)) (drop count (drop at active)) cut_are);
-      waiting_are = each_back IsPart (flat ++ active) stragglers book.parts;
+      waiting_are = each_back IsPart (flat ++ active) stragglers book.well_formed.parts;
       front_small = each_front HasSmallBatches (flat ++ take at active) (drop at active) small;
       middle_small = each_front HasSmallBatches (take count (drop at active)) (drop count (drop at active)) cut_small;
       back_small = rw (sym next) (each_back HasSmallBatches (take count (drop at active)) (drop count (drop at active)) cut_small);
-      waiting_small = each_back HasSmallBatches (flat ++ active) stragglers book.small;
+      waiting_small = each_back HasSmallBatches (flat ++ active) stragglers book.well_formed.small;
       is = is;
       rows = subst (λ (ps : List PartMeaning). HasRowsOf ps part) (sym (all_cut closed active stragglers at count)) rows;
     }
@@ -286,17 +288,16 @@ replaced_is_book closed active stragglers mark lo hi at part book run is sealed 
     let both : middle ++ drop count (drop at active) ≡ drop at active = take-append-drop count (drop at active) in
     let cut_loose : Each IsLoose (middle ++ drop count (drop at active)) = rw both run.loose in
     let back_loose : Each IsLoose back = rw (sym (drop-drop count at active)) (each_back IsLoose middle (drop count (drop at active)) cut_loose) in
-    let light : IsLight (take at active ++ (middle ++ back)) = rw (cut at count active) (each_back IsLight closed (active ∷ []) book.light).0 in
-    record {
-      settled = rw (sym (append_assoc flat (take at active) (part ∷ back))) (follows_join 1 fits.below mark front (part ∷ back) fits.before (fits.next, is.ordered, fits.behind));
-      bounded = book.bounded;
-      waiting = book.waiting;
-      parts = rw (sym (append_assoc flat (take at active) (part ∷ back))) (each_append IsPart (front ++ part ∷ back) stragglers (each_append IsPart front (part ∷ back) fits.front_are (is, fits.back_are)) fits.waiting_are);
-      small = rw (sym (append_assoc flat (take at active) (part ∷ back))) (each_append HasSmallBatches (front ++ part ∷ back) stragglers (each_append HasSmallBatches front (part ∷ back) fits.front_small (small, fits.back_small)) fits.waiting_small);
-      light = each_append IsLight closed ((take at active ++ part ∷ back) ∷ []) (each_front IsLight closed (active ∷ []) book.light) (light_kept (take at active) middle back part bytes light, tt);
-      sealed_first = each_append SealedFirst closed ((take at active ++ part ∷ back) ∷ []) (each_front SealedFirst closed (active ∷ []) book.sealed_first) (sealed_then_loose (take at active) back part run.sealed sealed back_loose, tt);
-      used = book.used;
-    }
+    let light : IsLight (take at active ++ (middle ++ back)) = rw (cut at count active) (each_back IsLight closed (active ∷ []) book.well_formed.light).0 in
+    book_upto (record { closed = closed; active = spliced at (hi - lo + 1) part active; stragglers = stragglers }) mark
+    (rw (sym (append_assoc flat (take at active) (part ∷ back))) (follows_join 1 fits.below mark front (part ∷ back) fits.before (fits.next, is.ordered, fits.behind)))
+    (mark_bounded book)
+    (waits_above book)
+    (rw (sym (append_assoc flat (take at active) (part ∷ back))) (each_append IsPart (front ++ part ∷ back) stragglers (each_append IsPart front (part ∷ back) fits.front_are (is, fits.back_are)) fits.waiting_are))
+    (rw (sym (append_assoc flat (take at active) (part ∷ back))) (each_append HasSmallBatches (front ++ part ∷ back) stragglers (each_append HasSmallBatches front (part ∷ back) fits.front_small (small, fits.back_small)) fits.waiting_small))
+    (each_append IsLight closed ((take at active ++ part ∷ back) ∷ []) (each_front IsLight closed (active ∷ []) book.well_formed.light) (light_kept (take at active) middle back part bytes light, tt))
+    (each_append SealedFirst closed ((take at active ++ part ∷ back) ∷ []) (each_front SealedFirst closed (active ∷ []) book.well_formed.sealed_first) (sealed_then_loose (take at active) back part run.sealed sealed back_loose, tt))
+    book.well_formed.used
 
 -- Its history is the same.
 pub replaced_history : (closed : List (List PartMeaning)) (active stragglers : List PartMeaning) (mark lo hi at : ℕ) (part : PartMeaning)

@@ -10,21 +10,19 @@ use Rattle.std.proofs.lemmas.Option.{none-some}
 use Rattle.fd_kinds.specs.declared.row.Row.{Row}
 use Rattle.fd_kinds.specs.RowOrder.{row_cmp}
 use Rattle.fd_kinds.specs.Parts.{PartMeaning, IsPart, IsWithin, rows_of}
-use Rattle.fd_shelf.specs.Books.{Book, IsBook, Each, Follows, IsLight, IsUsed, has_number, all_parts, settled_parts, rows_in, bytes_of}
+use Rattle.fd_shelf.specs.Books.{Book, Each, Follows, IsLight, IsUsed, has_number, all_parts, settled_parts, rows_in, bytes_of}
+use Rattle.fd_shelf.specs.Marks.{IsBook}
 use Rattle.fd_shelf.specs.Histories.{in_row_order}
 use Rattle.fd_shelf.specs.Steps.{lowest, highest, last_hi}
 use Rattle.fd_shelf.specs.Runs.{IsNumbered, AreSealable}
 use Rattle.fd_shelf.specs.Replacement.{HasRowsOf}
+use Rattle.fd_shelf.proofs.BookEnds.{ends_at, settled_upto, mark_bounded, waits_above}
 use Rattle.fd_shelf.proofs.BookLaws.{each_front, each_back}
 use Rattle.fd_shelf.proofs.HistoryLaws.{rows_of_number, split_rows, first_rows}
 use Rattle.fd_shelf.proofs.ReplacementLaws.{parts_rows, only_middle, none_in_front, none_in_back, none_waiting, all_within}
 use Rattle.fd_shelf.proofs.Runs.{follows_split, follows_upto}
 use Rattle.fd_shelf.proofs.RowPermutations.{same_in_any_order}
 use Rattle.fd_shelf.proofs.Spans.{each_at}
-
-pub ends_at : (first hi last : ℕ) (parts : List PartMeaning) → Follows first parts last → first ≡ hi + 1 → last_hi hi parts ≡ last
-ends_at first hi last [] follows next = omega (arith, follows, next)
-ends_at first hi last (p ∷ ps) follows next = ends_at (p.hi + 1) p.hi last ps follows.2 refl
 
 -- the range of parts that follow one another
 pub record IsRange (first last : ℕ) (parts : List PartMeaning) : Type 0 where
@@ -68,7 +66,7 @@ pub record IsStretch (book : Book) (mark : ℕ) (parts : List PartMeaning) : Typ
 pub stretch_are : (book : Book) (mark : ℕ) (parts : List PartMeaning) → IsBook book mark → IsStretch book mark parts → Each IsPart parts
 stretch_are book mark parts order is =
     let settled_are : Each IsPart (is.front ++ (parts ++ is.back)) =
-    subst (λ (ps : List PartMeaning). Each IsPart ps) is.whole (each_front IsPart (settled_parts book) book.stragglers order.parts) in
+    subst (λ (ps : List PartMeaning). Each IsPart ps) is.whole (each_front IsPart (settled_parts book) book.stragglers order.well_formed.parts) in
     each_front IsPart parts is.back (each_back IsPart is.front (parts ++ is.back) settled_are)
 
 -- The range of some parts lies up to the mark.
@@ -91,7 +89,7 @@ pub stretch_sealable : (book : Book) (mark : ℕ) (parts : List PartMeaning) →
 stretch_sealable book mark parts order is some light =
     let range = stretch_range book mark parts is some in
     let upto = follows_upto (is.last + 1) mark is.back is.behind in
-    let bounded = order.bounded in
+    let bounded = (mark_bounded order) in
     record {
       numbered = numbered_upto (is.below + 1) is.last parts (omega (arith, upto, bounded)) is.between;
       range = range.1;
@@ -105,8 +103,8 @@ none_at_zero : (book : Book) (mark n : ℕ) → IsBook book mark → n ≡ 0 →
 none_at_zero book mark n order is =
     let settled = settled_parts book in
     split_rows n settled book.stragglers
-    ∙ ap (λ rows. rows ++ rows_of_number book.stragglers n) (none_in_back 1 mark n settled order.settled (each_front IsPart settled book.stragglers order.parts) (omega (arith, is)))
-    ∙ none_waiting mark n book.stragglers order.waiting (each_back IsPart settled book.stragglers order.parts) (omega (arith, is))
+    ∙ ap (λ rows. rows ++ rows_of_number book.stragglers n) (none_in_back 1 mark n settled (settled_upto order) (each_front IsPart settled book.stragglers order.well_formed.parts) (omega (arith, is)))
+    ∙ none_waiting mark n book.stragglers (waits_above order) (each_back IsPart settled book.stragglers order.well_formed.parts) (omega (arith, is))
 
 -- the rows of a number of their range are in these parts
 rows_inside : (book : Book) (mark n : ℕ) (parts : List PartMeaning) → IsBook book mark → (is : IsStretch book mark parts) → is.below + 1 ≤ n → n ≤ is.last
@@ -115,7 +113,7 @@ rows_inside book mark n parts order is low high =
     let waiting = book.stragglers in
     let upto = follows_upto (is.last + 1) mark is.back is.behind in
     let same : all_parts book ≡ (is.front ++ (parts ++ is.back)) ++ waiting = ap (λ ps. ps ++ waiting) is.whole in
-    let are : Each IsPart ((is.front ++ (parts ++ is.back)) ++ waiting) = subst (λ (ps : List PartMeaning). Each IsPart ps) same order.parts in
+    let are : Each IsPart ((is.front ++ (parts ++ is.back)) ++ waiting) = subst (λ (ps : List PartMeaning). Each IsPart ps) same order.well_formed.parts in
     let settled_are = each_front IsPart (is.front ++ (parts ++ is.back)) waiting are in
     let front_are = each_front IsPart is.front (parts ++ is.back) settled_are in
     let back_are = each_back IsPart parts is.back (each_back IsPart is.front (parts ++ is.back) settled_are) in
@@ -124,7 +122,7 @@ rows_inside book mark n parts order is low high =
     ∙ only_middle (rows_of_number is.front n) (rows_of_number parts n) (rows_of_number is.back n) (rows_of_number waiting n)
     (none_in_front 1 is.below n is.front is.before front_are (omega (arith, low)))
     (none_in_back (is.last + 1) mark n is.back is.behind back_are (omega (arith, high)))
-    (none_waiting mark n waiting order.waiting (each_back IsPart (is.front ++ (parts ++ is.back)) waiting are) (omega (arith, high, upto)))
+    (none_waiting mark n waiting (waits_above order) (each_back IsPart (is.front ++ (parts ++ is.back)) waiting are) (omega (arith, high, upto)))
 
 rows_of_range : (book : Book) (mark n : ℕ) (parts : List PartMeaning) → IsBook book mark → IsStretch book mark parts → lowest parts ≤ n → n ≤ highest parts
     → rows_of_number (all_parts book) n ≡ rows_of_number parts n
@@ -178,7 +176,7 @@ among (b ∷ bs) active (suc block) parts here =
 pub closed_stretch : (book : Book) (mark block : ℕ) (parts : List PartMeaning) → IsBook book mark → slice_get book.closed block ≡ Some parts → IsStretch book mark parts
 closed_stretch book mark block parts order here =
     let is = among book.closed book.active block parts here in
-    let one = follows_split 1 mark is.front (parts ++ is.back) (omega arith) (subst (λ (ps : List PartMeaning). Follows 1 ps mark) is.whole order.settled) in
+    let one = follows_split 1 mark is.front (parts ++ is.back) (omega arith) (subst (λ (ps : List PartMeaning). Follows 1 ps mark) is.whole (settled_upto order)) in
     let two = follows_split (one.mid + 1) mark parts is.back (omega arith) one.back in
     record {
       front = is.front;
@@ -195,10 +193,10 @@ some_of_used : (parts : List PartMeaning) → IsUsed parts → parts ≢ []
 some_of_used parts used none = subst IsUsed none used
 
 pub closed_some : (book : Book) (mark block : ℕ) (parts : List PartMeaning) → IsBook book mark → slice_get book.closed block ≡ Some parts → parts ≢ []
-closed_some book mark block parts order here = some_of_used parts (each_at IsUsed book.closed block parts order.used here)
+closed_some book mark block parts order here = some_of_used parts (each_at IsUsed book.closed block parts order.well_formed.used here)
 
 pub closed_light : (book : Book) (mark block : ℕ) (parts : List PartMeaning) → IsBook book mark → slice_get book.closed block ≡ Some parts → bytes_of (rows_in parts) < 2 ^ 29
-closed_light book mark block parts order here = each_at IsLight book.closed block parts (each_front IsLight book.closed (book.active ∷ []) order.light) here
+closed_light book mark block parts order here = each_at IsLight book.closed block parts (each_front IsLight book.closed (book.active ∷ []) order.well_formed.light) here
 
 pub closed_sealable : (book : Book) (mark block : ℕ) (parts : List PartMeaning) → IsBook book mark → slice_get book.closed block ≡ Some parts → AreSealable parts
 closed_sealable book mark block parts order here =

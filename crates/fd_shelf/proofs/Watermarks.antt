@@ -11,17 +11,17 @@ use Rattle.fd_kinds.specs.declared.row.Numbered.{Numbered}
 use Rattle.fd_kinds.specs.History.{upto}
 use Rattle.fd_kinds.specs.Parts.{PartMeaning, IsPart, IsWithin, rows_of}
 use Rattle.fd_kinds.specs.RowOrder.{row_cmp}
-use Rattle.fd_shelf.specs.Books.{Book, IsBook, Each, Follows, has_number, all_parts, settled_parts, rows_in}
-use Rattle.fd_shelf.specs.Marks.{end_of, IsWellFormed}
+use Rattle.fd_shelf.specs.Books.{Book, Each, Follows, has_number, all_parts, settled_parts, rows_in}
+use Rattle.fd_shelf.specs.Marks.{IsBook}
 use Rattle.fd_shelf.specs.Histories.{batch_at, batches_from, hist, put_row, in_row_order}
 use Rattle.fd_shelf.specs.Steps.{is_upto, IsWholeAt}
+use Rattle.fd_shelf.proofs.BookEnds.{settled_upto, waits_above}
 use Rattle.fd_shelf.proofs.Batches.{batches_permute}
 use Rattle.fd_shelf.proofs.BookLaws.{each_front, each_back}
 use Rattle.fd_shelf.proofs.HistoryLaws.{none_below, rows_of_number, split_rows, first_rows, without}
 use Rattle.fd_shelf.proofs.Numbers.{by_number, by_number_permutes}
 use Rattle.fd_shelf.proofs.ReplacementLaws.{none_waiting}
 use Rattle.fd_shelf.proofs.Runs.{follows_upto}
-use Rattle.fd_shelf.proofs.Stretches.{ends_at}
 
 if_true : {A : Type 0} (b : Bool) (x y : A) → b ≡ true → (if b then x else y) ≡ x
 if_true b x y e = rw e refl
@@ -37,16 +37,8 @@ all_upto first mark w (p ∷ ps) follows high =
     ∙ ap (λ qs. p ∷ qs) (all_upto (p.hi + 1) mark w ps follows.2 high)
 
 -- From the mark on, all parts of the blocks are told.
-pub upto_mark : (book : Book) (mark w : ℕ) → IsBook book mark → mark ≤ w → filter (is_upto w) (settled_parts book) ≡ settled_parts book
-upto_mark book mark w order high = all_upto 1 mark w (settled_parts book) order.settled high
-
--- The mark is the end of the blocks ..
-pub mark_ends : (book : Book) (mark : ℕ) → IsBook book mark → mark ≡ end_of book
-mark_ends book mark order = sym (ends_at 1 0 mark (settled_parts book) order.settled (omega arith))
-
--- .. and apart from it the book is well formed.
-pub well_formed : (book : Book) (mark : ℕ) → IsBook book mark → IsWellFormed book
-well_formed book mark order = subst (λ (end : ℕ). IsBook book end) (mark_ends book mark order) order
+pub upto_mark : (book : Book) (mark : ℕ) → IsBook book mark → (w : ℕ) → mark ≤ w → filter (is_upto w) (settled_parts book) ≡ settled_parts book
+upto_mark book mark order w high = all_upto 1 mark w (settled_parts book) (settled_upto order) high
 
 upto_rows_by : (w n : ℕ) (p : PartMeaning) (ps picked : List PartMeaning) (b : Bool) → is_upto w p ≡ b → IsPart p → n ≤ w → rows_of_number picked n ≡ rows_of_number ps n
     → rows_of_number (if b then p ∷ picked else picked) n ≡ rows_of_number (p ∷ ps) n
@@ -64,13 +56,13 @@ all_rows : (book : Book) (mark n : ℕ) → IsBook book mark → n ≤ mark → 
 all_rows book mark n order within =
     let settled = settled_parts book in
     split_rows n settled book.stragglers
-    ∙ ap (λ more. rows_of_number settled n ++ more) (none_waiting mark n book.stragglers order.waiting (each_back IsPart settled book.stragglers order.parts) within)
+    ∙ ap (λ more. rows_of_number settled n ++ more) (none_waiting mark n book.stragglers (waits_above order) (each_back IsPart settled book.stragglers order.well_formed.parts) within)
     ∙ append-nil (rows_of_number settled n)
 
 told_rows : (book : Book) (mark w n : ℕ) → IsBook book mark → w ≤ mark → n ≤ w → rows_of_number (all_parts book) n ≡ rows_of_number (filter (is_upto w) (settled_parts book)) n
 told_rows book mark w n order upto within =
     all_rows book mark n order (omega (arith, upto, within))
-    ∙ sym (upto_rows w n (settled_parts book) (each_front IsPart (settled_parts book) book.stragglers order.parts) within)
+    ∙ sym (upto_rows w n (settled_parts book) (each_front IsPart (settled_parts book) book.stragglers order.well_formed.parts) within)
 
 batch_of : (parts : List PartMeaning) (number count i : ℕ) → i < count → slice_get (batches_from parts number count) i ≡ Some (batch_at parts (number + i))
 batch_of parts number zero i inside = absurd (omega (arith, inside))
@@ -116,10 +108,10 @@ pub history_upto : (book : Book) (mark : ℕ) → IsBook book mark
     → (w : ℕ) → w ≤ mark → Each (IsWholeAt w) (settled_parts book) → IsPermutation (rows_of (rows_in (filter (is_upto w) (settled_parts book)))) (upto (hist book mark) w)
 history_upto book mark order w within whole =
     let rows = rows_in (filter (is_upto w) (settled_parts book)) in
-    let are = each_front IsPart (settled_parts book) book.stragglers order.parts in
+    let are = each_front IsPart (settled_parts book) book.stragglers order.well_formed.parts in
     subst (λ batches. IsPermutation (rows_of rows) (flat_map (λ (batch : List Row). batch) batches)) (sym (first_batches (all_parts book) 1 w mark within))
     (IsPermutation-trans (rows_of rows) (rows_of (by_number rows 1 w)) (flat_map (λ (batch : List Row). batch) (batches_from (all_parts book) 1 w))
-    (IsPermutation-map (λ (n : Numbered). n.row) rows (by_number rows 1 w) (by_number_permutes 1 w w rows (all_within_upto 1 mark w (settled_parts book) (omega arith) order.settled are whole) (omega arith)))
+    (IsPermutation-map (λ (n : Numbered). n.row) rows (by_number rows 1 w) (by_number_permutes 1 w w rows (all_within_upto 1 mark w (settled_parts book) (omega arith) (settled_upto order) are whole) (omega arith)))
     (batches_permute (all_parts book) rows w 1 w (λ n low. told_rows book mark w n order within low) (omega arith)))
 
 batches_push : (parts : List PartMeaning) (number count : ℕ) → batches_from parts number (suc count) ≡ batches_from parts number count ++ batch_at parts (number + count) ∷ []

@@ -1,4 +1,4 @@
--- The parts of a shelf up to its mark, and the batch that it gains.
+-- The rows of the parts of a shelf, and the batch that it gains.
 use Rattle.std.specs.Prelude.{◌≡◌, ℕ, zero, suc, ◌+◌, ◌≤◌, Bool, true, false, if◌then◌else◌, List, [], ◌∷◌, ◌++◌, map, filter, flat_map, slice_index_or, IsSorted, refl}
 use Rattle.std.specs.Ordering.{is_lt}
 use Rattle.std.proofs.Common.{arith, ap, sym, ◌∙◌, subst}
@@ -9,30 +9,14 @@ use Rattle.fd_kinds.specs.declared.row.Numbered.{Numbered}
 use Rattle.fd_kinds.specs.RowOrder.{row_cmp}
 use Rattle.fd_kinds.specs.Parts.{PartMeaning, loose_part, rows_of}
 use Rattle.fd_kinds.proofs.PartLaws.{rows_of_with_number}
-use Rattle.fd_shelf.specs.Books.{Book, IsBook, Follows, settled_parts, all_parts, rows_in}
+use Rattle.fd_shelf.specs.Books.{Book, all_parts, rows_in}
 use Rattle.fd_shelf.specs.Histories.{batch_at, batches_from, hist, put_row, in_row_order}
-use Rattle.fd_shelf.specs.Steps.{is_upto}
-
-follows_below : (first mark : ℕ) (parts : List PartMeaning) → Follows first parts mark → first ≤ mark + 1
-follows_below first mark [] follows = omega (arith, follows)
-follows_below first mark (p ∷ ps) follows =
-    let rest = follows_below (p.hi + 1) mark ps follows.2 in omega (arith, rest, follows.0, follows.1)
 
 if_true : {A : Type 0} (b : Bool) (x y : A) → b ≡ true → (if b then x else y) ≡ x
 if_true b x y e = rw e refl
 
 if_false : {A : Type 0} (b : Bool) (x y : A) → b ≡ false → (if b then x else y) ≡ y
 if_false b x y e = rw e refl
-
-all_below : (first mark : ℕ) (parts : List PartMeaning) → Follows first parts mark → filter (is_upto mark) parts ≡ parts
-all_below first mark [] follows = refl
-all_below first mark (p ∷ ps) follows =
-    let rest = follows_below (p.hi + 1) mark ps follows.2 in
-    if_true (is_upto mark p) (p ∷ filter (is_upto mark) ps) (filter (is_upto mark) ps) (grind (arith, rest, follows.1))
-    ∙ ap (λ qs. p ∷ qs) (all_below (p.hi + 1) mark ps follows.2)
-
-pub upto_mark : (book : Book) (mark : ℕ) → IsBook book mark → filter (is_upto mark) (settled_parts book) ≡ settled_parts book
-upto_mark book mark order = all_below 1 mark (settled_parts book) order.settled
 
 batches_push : (parts : List PartMeaning) (number count : ℕ) → batches_from parts number (suc count) ≡ batches_from parts number count ++ batch_at parts (number + count) ∷ []
 batches_push parts number zero = ap (λ n. batch_at parts n ∷ []) (omega arith)

@@ -76,7 +76,6 @@ fn drawn(shelf: &Shelf<Part>) -> u64
 }
 
 /// Shares of all parts, in order.
-#[tactic(auto, using(crate::proofs::ShelfHistory::upto_mark))]
 fn all_parts(shelf: &Shelf<Part>) -> Result<Picked<Part>, NoMemory>
     ensures { IfOk result (λ picked.
         map (λ i. part_meaning i.part) picked ≡ settled_parts shelf.now.book) }
