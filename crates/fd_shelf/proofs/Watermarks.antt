@@ -127,6 +127,14 @@ history_push book w =
     let next : 1 + w ≡ w + 1 = omega arith in
     ap (batches_from (all_parts book) 1) one ∙ batches_push (all_parts book) 1 w ∙ ap (λ n. hist book w ++ batch_at (all_parts book) n ∷ []) next
 
+-- the batch of the number behind the mark is the next one
+pub next_batch : (new old : Book) (mark number : ℕ) (batch : List Row) → number ≡ mark + 1 → hist new mark ≡ hist old mark → batch_at (all_parts new) number ≡ batch
+    → hist new (mark + 1) ≡ hist old mark ++ batch ∷ []
+next_batch new old mark number batch next kept here =
+    history_push new mark
+    ∙ ap (λ history. history ++ batch_at (all_parts new) (mark + 1) ∷ []) kept
+    ∙ ap (λ last. hist old mark ++ last ∷ []) (ap (batch_at (all_parts new)) (sym next) ∙ here)
+
 put_first : (r : Row) (rows : List Row) → IsSorted row_cmp (r ∷ rows) → put_row r rows ≡ r ∷ rows
 put_first r [] sorted = refl
 put_first r (s ∷ rows) sorted = if_false (is_lt (row_cmp s r)) (s ∷ put_row r rows) (r ∷ s ∷ rows) (sorted 0 r (omega arith) (omega arith))
