@@ -3,7 +3,7 @@ use Rattle.std.specs.Prelude.{◌≡◌, ◌≢◌, ◌⊎◌, ℕ, ◌+◌, ◌
 use Rattle.fd_kinds.specs.Parts.{PartMeaning, IsPart}
 use Rattle.fd_shelf.specs.declared.replacement.NotReplaced.{NotReplaced}
 use Rattle.fd_shelf.specs.declared.replacement.NotReplaced.TheVariants.{Overtaken, Changed}
-use Rattle.fd_shelf.specs.Books.{Book, Shelved, Each, Follows, IsLoose, IsSealed, SealedFirst}
+use Rattle.fd_shelf.specs.Books.{Book, Shelved, Each, Any, Follows, IsLoose, IsSealed, SealedFirst}
 use Rattle.fd_shelf.specs.Histories.{batch_at}
 
 -- the part holds the number and is loose
@@ -12,8 +12,7 @@ HoldsLoose number part = IsLoose part × (part.lo ≤ number) × (number ≤ par
 
 -- a loose part holds the number
 abbrev pub IsInLoose : ℕ → List PartMeaning → Type 0
-IsInLoose number [] = ⊥
-IsInLoose number (p ∷ ps) = HoldsLoose number p ⊎ IsInLoose number ps
+IsInLoose number parts = Any (HoldsLoose number) parts
 
 -- The number stands against replacing the parts from lo to hi: it is below them and in a loose part, or it is one of
 -- theirs and in no such part.
