@@ -1,5 +1,5 @@
 use Rattle.fd_shelf.proofs.Batches.{hist_length, history_rows}
-use Rattle.fd_shelf.proofs.Watermarks.{history_batch, history_upto, history_push, in_order_of_sorted}
+use Rattle.fd_shelf.proofs.Watermarks.{history_batch, history_upto, history_push}
 use Rattle.fd_shelf.proofs.shelf.Shelf.history_laws.Goals as goal
 
 pub returns-clause-count : goal.returns-clause-count
@@ -16,6 +16,3 @@ returns-clause-whole g c = history_upto c.args.self.now.book c.args.self.now.mar
 
 pub returns-clause-push : goal.returns-clause-push
 returns-clause-push g c = history_push c.args.self.now.book
-
-pub returns-clause-sorted : goal.returns-clause-sorted
-returns-clause-sorted g c = in_order_of_sorted
