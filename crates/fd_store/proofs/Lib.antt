@@ -1,2 +1,1 @@
-pub mod ShelfHistory
 pub mod Views

@@ -1,8 +1,8 @@
 ghost use Rattle.std.specs.Prelude.{◌≡◌, ◌<◌, ◌≤◌, ◌+◌, ◌^◌, [], ◌∷◌, ◌++◌, length};
-ghost use Rattle.std.specs.Prelude.{map, filter, IfOk};
+ghost use Rattle.std.specs.Prelude.{filter, flat_map, IfOk};
 ghost use Rattle.fd_kinds.specs.History.{IsOpened, history_of};
 ghost use Rattle.fd_kinds.specs.Parts.{rows_of};
-ghost use Rattle.fd_shelf.specs.Books.{IsLoose, settled_parts, bytes_of, MOST_BATCH};
+ghost use Rattle.fd_shelf.specs.Books.{IsLoose, settled_parts, rows_in, bytes_of, MOST_BATCH};
 ghost use Rattle.fd_shelf.specs.Histories.{hist, in_row_order};
 ghost use Rattle.fd_shelf.specs.Steps.{is_loose};
 ghost use Rattle.fd_part.specs.Parts.{part_meaning};
@@ -14,7 +14,7 @@ use fd_kinds::{
     Batch, Held, NoMemory, Query, ReadRefusal, Seen, Stand, Store, WriteRefusal, meaning_laws,
 };
 use fd_part::Part;
-use fd_shelf::{Picked, Shelf};
+use fd_shelf::{Picked, Shelf, batch_laws};
 use std::marker::Model;
 
 /// A store in memory that nobody shares. Contracts see it as the history that it was opened with
@@ -78,10 +78,12 @@ fn drawn(shelf: &Shelf<Part>) -> u64
 /// Shares of all parts, in order.
 fn all_parts(shelf: &Shelf<Part>) -> Result<Picked<Part>, NoMemory>
     ensures { IfOk result (λ picked.
-        map (λ i. part_meaning i.part) picked ≡ settled_parts shelf.now.book) }
+        flat_map (λ i. rows_of (part_meaning i.part).rows) picked
+        ≡ rows_of (rows_in (settled_parts shelf.now.book))) }
 {
     shelf.is_in_order();
-    shelf.parts_upto(shelf.mark())
+    let picked = shelf.parts_upto(shelf.mark())?;
+    Ok(picked)
 }
 
 impl Local {
@@ -143,6 +145,7 @@ impl Store for Local {
         let part = Part::fresh(batch)?;
         self.shelf.reserve(1)?;
         add(&mut self.shelf, part);
+        batch_laws();
         // Where memory is wanting for it, a later write compacts.
         self.wanting = compact_full(&mut self.shelf).is_err();
         Ok(drawn + 1)

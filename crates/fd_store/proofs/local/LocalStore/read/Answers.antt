@@ -4,8 +4,6 @@ use Rattle.fd_kinds.specs.Meaning.{meaning}
 use Rattle.fd_kinds.specs.Parts.{rows_of}
 use Rattle.fd_shelf.specs.Books.{settled_parts, rows_in}
 use Rattle.fd_shelf.specs.Histories.{hist}
-use Rattle.fd_part.specs.Parts.{part_meaning}
-use Rattle.fd_store.proofs.ShelfHistory.{rows_of_picked}
 use Rattle.fd_store.proofs.Views.{history_is}
 use Rattle.fd_store.proofs.local.LocalStore.read.Goals as goal
 
@@ -19,7 +17,7 @@ returns-clause-gives c =
       omega (arith, counted, c.if-after-watermark.false),
       counted,
       c.in_ok-answer.ensures
-          ∙ ap (meaning c.args.query.now) (rows_of_picked (λ i. part_meaning i.part) c.in_ok-parts.parts (settled_parts book) c.in_ok-parts.ensures)
+          ∙ ap (meaning c.args.query.now) c.in_ok-parts.ensures
           ∙ c.meaning_laws.ensures.meaning c.args.query.now (rows_of (rows_in (settled_parts book))) (upto (hist book mark) mark) c.history_laws.ensures.rows
           ∙ ap (λ h. meaning c.args.query.now (upto h mark)) (sym history)
           ∙ ap (λ n. meaning c.args.query.now (upto (history_of c.args.self.now) n)) is_mark,

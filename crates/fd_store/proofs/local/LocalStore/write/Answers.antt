@@ -4,7 +4,6 @@ use Rattle.fd_kinds.specs.Parts.{rows_of}
 use Rattle.fd_kinds.proofs.PartLaws.{rows_of_with_number}
 use Rattle.fd_shelf.specs.Histories.{hist, in_row_order}
 use Rattle.fd_part.specs.Parts.{part_meaning}
-use Rattle.fd_store.proofs.ShelfHistory.{in_order_of_sorted}
 use Rattle.fd_store.proofs.Views.{history_is, adds, few_left}
 use Rattle.fd_store.proofs.local.LocalStore.write.Goals as goal
 
@@ -23,7 +22,7 @@ returns-clause-gives c =
     ∙ ap (λ book. hist book c.reserve.new.self.mark ++ in_row_order (rows_of (part_meaning c.in_ok-part.part).rows) ∷ []) c.in_ok-reserve.ensures.book
     ∙ ap (λ mark. hist book mark ++ in_row_order (rows_of (part_meaning c.in_ok-part.part).rows) ∷ []) c.in_ok-reserve.ensures.mark
     ∙ ap (λ batch. hist book mark ++ in_row_order batch ∷ []) rows
-    ∙ ap (λ batch. hist book mark ++ batch ∷ []) (in_order_of_sorted c.args.batch.rows c.args.batch.sorted) in (
+    ∙ ap (λ batch. hist book mark ++ batch ∷ []) (c.batch_laws.ensures.sorted c.args.batch.rows c.args.batch.sorted) in (
       omega (arith, counted, c.if-drawn-ge-MOST_NUMBERS.false),
       ap (λ n. n + 1) counted,
       adds c.self.inside.opened (hist book mark) (hist c.compact_full.new.shelf.book c.compact_full.new.shelf.mark) _ _ _ c.self.inside.wanting c.args.batch.rows c.args.self.now
