@@ -31,7 +31,7 @@ one_by r true =
     let alone : row_size r.row + 0 ≡ row_size r.row = omega arith in sum_by-cons (λ (n : Numbered). row_size n.row) r [] ∙ alone
 one_by r false = refl
 
-next_rows : (rows : List Numbered) (at : ℕ) (r : Numbered) → slice_get rows at ≡ Some r → take (at + 1) rows ≡ take at rows ++ r ∷ []
+pub next_rows : (rows : List Numbered) (at : ℕ) (r : Numbered) → slice_get rows at ≡ Some r → take (at + 1) rows ≡ take at rows ++ r ∷ []
 next_rows rows at r there = take_more rows at r (slice_get_within rows at r there) ∙ ap (λ n. take at rows ++ n ∷ []) (get_or_from_slice_get rows at r r there)
 
 bytes_more : (number at : ℕ) (rows : List Numbered) (r : Numbered) → slice_get rows at ≡ Some r

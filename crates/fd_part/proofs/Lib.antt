@@ -1,3 +1,4 @@
+pub mod BatchLists
 pub mod BatchSizes
 pub mod FaultLaws
 pub mod Orders

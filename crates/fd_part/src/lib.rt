@@ -12,6 +12,7 @@
 #![tactic(auto)]
 
 mod batch_columns;
+mod batch_list;
 mod batch_sizes;
 mod part;
 mod range_file;

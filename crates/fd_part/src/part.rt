@@ -1,4 +1,4 @@
-ghost use Rattle.std.specs.Prelude.{◌≡◌, ◌≢◌, ◌≤◌, ◌<◌, ◌^◌, ◌↔◌, ℕ, true, List, All};
+ghost use Rattle.std.specs.Prelude.{◌≡◌, ◌≢◌, ◌≤◌, ◌<◌, ◌^◌, ◌↔◌, ℕ, true, List, [], ◌∷◌, All};
 ghost use Rattle.std.specs.Prelude.{is_some, IfOk, IfErr, IfSome, IsTrue};
 ghost use Rattle.fd_kinds.specs.declared.row.Numbered.{Numbered};
 ghost use Rattle.fd_kinds.specs.Parts.{IsWithin, loose_part, rows_of};
@@ -6,16 +6,20 @@ ghost use Rattle.fd_footer.specs.declared.footer.Pages.TheVariants.{Plain};
 ghost use Rattle.fd_table_file.specs.Files.{IsSmall, IsFileOf};
 ghost use Rattle.fd_parquet.specs.Refusals.{Refuses, IsRefused, Gives};
 ghost use Rattle.fd_parquet.specs.declared.fault.FileFault.{FileFault as AnyFault};
-ghost use Rattle.fd_shelf.specs.Books.{HasSmallBatches};
+ghost use Rattle.fd_shelf.specs.Books.{Each, HasSmallBatches};
+ghost use Rattle.fd_shelf.specs.Histories.{batch_at};
+ghost use Rattle.fd_part.specs.Batches.{HasRows, Rises, rows_at};
 ghost use Rattle.fd_part.specs.Parts.{part_meaning};
 ghost use Rattle.fd_part.specs.Ranges.{sealed_part};
 
 use crate::batch_columns::BatchColumns;
+use crate::batch_list::batches_of;
 use crate::batch_sizes::{MOST_BATCH, has_small_batches};
 use crate::sealed_range::SealedRange;
 use fd_column::{ColumnPart, Columns};
-use fd_kinds::{Batch, Bytes, Held, NoMemory};
+use fd_kinds::{Batch, Batches, Bytes, Held, NoMemory};
 use fd_parquet::{FileFault, FileTable, read_file};
+use fd_shelf::batch_laws;
 
 /// How a part keeps its rows.
 #[derive(Debug, Drop)]
@@ -111,6 +115,21 @@ impl Part {
             Form::Loose { columns, .. } => Ok(columns.bytes() <= MOST_BATCH),
             Form::Sealed(range) => has_small_batches(range.rows.allocator(), range.rows.columns()),
         }
+    }
+
+    /// The batches of the numbers that have rows, in the order of the numbers; each other number has
+    /// a batch without rows. It goes over the rows once.
+    pub fn batches(&self) -> Result<Batches, NoMemory>
+        requires { (part_meaning self.now).hi < 2 ^ 63 }
+        ensures order { IfOk result (λ batches. Rises 0 batches) }
+        ensures some { IfOk result (λ batches. Each HasRows batches) }
+        ensures rows { IfOk result (λ batches. (number : ℕ)
+            → rows_at number batches ≡ batch_at (part_meaning self.now ∷ []) number) }
+    {
+        let table = self.columns()?;
+        let batches = batches_of(&table)?;
+        batch_laws();
+        Ok(batches)
     }
 
     /// The columns of the numbered rows, which cost no copy.
