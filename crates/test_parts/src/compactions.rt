@@ -37,7 +37,7 @@ fn written(alloc: Global, requests: Bytes) -> Result<Local, NoMemory> {
 }
 
 /// A store after so many writes of two rows each.
-fn written_often(alloc: Global, times: u32) -> Result<Local, NoMemory> {
+pub(crate) fn written_often(alloc: Global, times: u32) -> Result<Local, NoMemory> {
     written(alloc, repeated(alloc, WRITE, times)?)
 }
 
@@ -48,7 +48,7 @@ fn answers(alloc: Global, store: &mut Local, expected: &[u8]) -> Result<bool, No
 }
 
 /// All parts of a shelf, in order.
-fn parts_of(shelf: &Shelf<Part>) -> Result<Picked<Part>, NoMemory> {
+pub(crate) fn parts_of(shelf: &Shelf<Part>) -> Result<Picked<Part>, NoMemory> {
     shelf.is_in_order();
     shelf.parts_upto(shelf.mark())
 }
@@ -65,7 +65,7 @@ fn are_one_file(parts: &[InBlock<Part>], hi: u64, rows: u64) -> bool {
     }
 }
 
-fn is_one_file(shelf: &Shelf<Part>, hi: u64, rows: u64) -> Result<bool, NoMemory> {
+pub(crate) fn is_one_file(shelf: &Shelf<Part>, hi: u64, rows: u64) -> Result<bool, NoMemory> {
     Ok(are_one_file(parts_of(shelf)?.as_slice(), hi, rows))
 }
 

@@ -3,8 +3,12 @@
 #![tactic(auto)]
 
 #[cfg(test)]
+mod batches;
+#[cfg(test)]
 mod compactions;
 #[cfg(test)]
 mod shelves;
 #[cfg(test)]
 mod stub;
+#[cfg(test)]
+mod thresholds;
