@@ -1,0 +1,99 @@
+-- Taking the turn keeps the rule.
+use Rattle.std.proofs.Common.{◌≡◌, ◌≢◌, ◌⊎◌, ℕ, zero, suc, ◌+◌, ◌*◌, ◌-◌, ◌^◌, ◌<◌, ◌≤◌, ◌%◌, Bool, true, false, ◌||◌, ◌&&◌, cond, List, [], ◌∷◌, ◌++◌, length, get_or, set, min, max, sym, refl, ap, ◌∙◌, subst, ⊎_elim, inl, inr, arith, length-append, append_assoc, eqb, eq-eqb, ne_eqb}
+use Rattle.std.proofs.Math.Dec.{ltb}
+use Rattle.std.proofs.Math.Nat.{mod-eq_of_lt}
+use Rattle.std.proofs.lemmas.Bool.{le-ltb}
+use prog.Atomic.{either}
+use mathlib.Core.Logic.{dite}
+use mathlib.Core.Option.{Option, none, some, some-injective, some-ne-none}
+use native.Mathlib.Decide.{ℕ_discrete, dec_lt}
+use lib.ListN.{get_elem?}
+use Rattle.atomic_table.specs.Table.{State, step, keeps, takes, gives, stepped, Allows, Splits, Joins, rest as others, opening, Final}
+use Rattle.atomic_table.proofs.Lists.{set_here, set_else}
+use Rattle.fd_kinds.specs.declared.row.Row.{Row}
+use Rattle.fd_kinds.specs.Parts.{PartMeaning, loose_part}
+use Rattle.fd_kinds.specs.History.{History, IsSmall}
+use Rattle.fd_kinds.specs.Stores.{Grows, Written}
+use Rattle.fd_shelf.specs.Books.{Book, Shelved, all_parts, settled_parts}
+use Rattle.fd_shelf.specs.Marks.{IsBook}
+use Rattle.fd_shelf.specs.Books.{Each as AllOf}
+use Rattle.fd_shelf.specs.Histories.{hist, batch_at, in_row_order}
+use Rattle.fd_shelf.specs.Numbers.{IsIn, IsInSealed, Keeps}
+use Rattle.fd_shelf.specs.Stragglers.{with_straggler}
+use Rattle.fd_rule.specs.Lists.{AllUpto, In, Tops, AllHeld}
+use Rattle.fd_rule.specs.Tables.{TableState, Seated, Homes, Sits, after, word, empties}
+use Rattle.fd_rule.specs.View.{IDLE, NONE, PinState, idle, arriving, settled, Hand, bare, laden, Place, TurnView, Draws, Knowledge, Pinning, View, no_view, no_draws, no_pinning, first, loaded, idle_words}
+use Rattle.fd_rule.specs.Rule.{Each, place, turn, draws, seen, books, pinning, whole, Stage, free, flying, full, looked, Globals, Words, Order, AtHome, Booked, Sealed, LaneOk, Lanes, sum, one_if, count_of, count_in, owns, seated, holding, clearance, splitting, Counts, Placed, Roster, Live, Entry, Owned, Flies, Draw, Drawing, OutOf, HandOk, InTurn, Hands, Saw, Kept, PinOk, PinningOk, Pins, Ruled}
+use Rattle.fd_rule.specs.declared.slot.SlotValue.{SlotValue}
+use Rattle.fd_rule.specs.declared.slot.SlotValue.TheVariants.{Empty, Home, Landed}
+use Rattle.fd_rule.proofs.Stay.{below, moves, stays, same, grows, alike, alone}
+use Rattle.fd_rule.proofs.Sets.{put, put_here, put_else, put_both, put_one, length_set, load, store_drawn, store_mark, store_taken, store_synced, store_floor, store_lane, store_pin, same_pins}
+use Rattle.fd_rule.proofs.Sums.{sum_set, sum_same, sum_one, sum_two, sum_push, sum_most, sum_alone, one_most, one_or}
+use Rattle.fd_rule.proofs.PinChanges.{pins_same, pins_up, pins_scan, pins_stand, pins_load, pins_grow, at_stand, below_pin}
+use Rattle.fd_rule.proofs.BookChanges.{BookLaws, StragglerLaws, in_front, sealed_in, keeps_same, keeps_then, all_keep, straggler_more, straggler_new, straggler_less, straggler_keeps, grows_same, grows_then, hist_grows, batch_same}
+use Rattle.fd_rule.proofs.Keep.{upto_later, upto_more, in_upto, all_map, all_append, count_append, in_append, entry_is, tops_of, flag_true, both_true, by_stage, nth, lane_rows, draw_flag, draw_stage, draw_book, roster_same, lanes_same, lives_same, numbers_same, seats_same, holders_same, splitters_same, room_same, counts_same, looks}
+use Rattle.fd_rule.specs.Kinds.TurnTry.{Happens, HappensFree, HappensHeld, Later, Below, with_book, with_refusal, told}
+
+module _ (P : Type 0) (means : P → PartMeaning) (start : Shelved) (seats : ℕ) where
+  abbrev Rule : TableState P → Type 0
+  Rule = Ruled means start seats
+
+  keeps_book : (s : TableState P) (r : Rule s) (id : ℕ) (v : View) (b : Shelved) → Sits s id v → word s 2 ≡ 0 → get_elem? s.homes 0 ≡ some (some (Home b)) → Rule (after s 2 (id + 1) (set s.homes 0 none) id (with_book b v))
+  keeps_book s r id v b sits hit is_home = let at = sits.at in let live = sits.live in let t : ℕ = word s 2 in let is : t ≡ r.g.taken = r.words.taken_is in let k = r.saw.known id v at in let size = length_set s.views id v in
+      let h = r.home.home (sym is ∙ hit) in let b0 : Shelved = record { book = r.g.book; mark = r.g.mark; spare = h.0 } in
+      let same_b : b0 ≡ b = ap (shelf_in b0) (sym h.1 ∙ is_home) in
+      subst (λ (y : Shelved). Rule (after s 2 (id + 1) (set s.homes 0 none) id (with_book y v))) same_b
+      (let w : View = with_book b0 v in let holders = r.counts.holders in let sums = sum_set holding s.views id v w at in let mine_too = sum_one holding s.views id v at in record {
+        g = record r.g { taken = id + 1 };
+        words = store_taken r.words (id + 1);
+        order = r.order;
+        home = record { deep = length_set s.homes 0 none ∙ r.home.deep; home = λ e. absurd (omega arith) };
+        booked = r.booked;
+        sealed = r.sealed;
+        lanes = let n = length_set s.views id w in record {
+          ok = λ j i. subst (λ x. LaneOk means r.g.batch_of (r.g.lane j) x (r.g.stage j)) (sym (set_else s.homes 0 (1 + j) none (λ e. omega arith))) (r.lanes.ok j i);
+          unsplit = λ j i. r.lanes.unsplit j (omega (arith, i, n));
+          none_looked = λ e. absurd (omega arith);
+        };
+        counts = record { numbers = numbers_same id v w at r.counts refl; seats = seats_same id v w at r.counts refl; holders = omega arith; splitters = splitters_same id v w at r.counts refl; room = room_same id v w at r.counts refl };
+        roster = roster_same id v w at refl r.roster;
+        lives = lives_same id v w at live refl refl r.lives;
+        draws = same id w v at refl r.draws;
+        hands = moves id w (λ _. record { mine = refl; book_is = refl; mark_is = refl; hand = r.lanes.none_looked (sym is ∙ hit) }) (λ j x other p known holds. let n : r.g.taken ≡ j + 1 = (known holds).mine in absurd (omega arith)) r.hands;
+        saw = stays id w record { history = grows_same (hist r.g.book r.g.mark); marks = k.marks; drawns = k.drawns; synceds = k.synceds; others = k.others } r.saw;
+        kept = stays id w (keeps_same r.g.book, r.kept.known id v at) r.kept;
+        pins = pins_same r.pins id v w at refl;
+      })
+    where
+      shelf_in : Shelved → Option (Option (SlotValue P)) → Shelved
+      shelf_in other (some (some (Home shelf))) = shelf
+      shelf_in other (some (some Empty)) = other
+      shelf_in other (some (some (Landed part))) = other
+      shelf_in other (some none) = other
+      shelf_in other none = other
+
+  keeps_refusal : (s : TableState P) (r : Rule s) (id : ℕ) (v : View) → Sits s id v → Rule (after s 2 (word s 2) s.homes id (with_refusal (word s 2) v))
+  keeps_refusal s r id v sits = let at = sits.at in let t : ℕ = word s 2 in let w : View = with_refusal t v in
+      looks P means start seats s r id v w (set s.words 2 t) r.g.pin r.g.pinned at sits.live refl refl refl refl (room_same id v w at r.counts refl) (load r.words 2) (r.draws.known id v at) (r.hands.known id v at) (r.saw.known id v at) (r.kept.known id v at) (pins_same r.pins id v w at refl)
+
+  pub turn_try_event : (id : ℕ) (s t : TableState P) → Rule s → Happens id s t → Rule t
+  turn_try_event id s t r happens = ⊎_elim
+      (λ (h : HappensFree id s t). subst (λ x. Rule x) (sym h.becomes) (keeps_book s r id h.view h.shelf h.sits h.free h.home))
+      (λ (h : HappensHeld id s t). subst (λ x. Rule x) (sym h.becomes) (keeps_refusal s r id h.view h.sits)) happens
+
+  pub allows_turn_try : (counted : (book : Book) (mark : ℕ) → length (hist book mark) ≡ mark) (slots id mine : ℕ) (me : Seated P) → mine ≡ me.0.place.number + 1 → me.0.place.spent ≡ false → Allows Rule slots id me 2 (λ n. either (eqb n 0) mine n) (told (step slots 2 0 mine none) me)
+  allows_turn_try counted slots id mine me is_number live s r deep at small = let v : View = me.0 in let sits : Sits s id v = record { at = at; live = live } in let number = (r.roster.places.known id v at).number live in let is_own : mine ≡ id + 1 = omega arith in let t : ℕ = word s 2 in let is : t ≡ r.g.taken = r.words.taken_is in let k = r.saw.known id v at in let o = r.order in let under = o.marks_drawn in let small = o.small in dite (ℕ_discrete t 0)
+      (λ hit. let h = r.home.home (sym is ∙ hit) in let b : Shelved = record { book = r.g.book; mark = r.g.mark; spare = h.0 } in (
+        with_book b v,
+        takes 0 (Home b),
+        h.1,
+        subst (λ (n : ℕ). Rule (after s 2 n (set s.homes 0 none) id (with_book b v))) (sym (ap (λ c. either c mine t) (eq-eqb t 0 hit) ∙ is_own)) (keeps_book s r id v b sits hit h.1),
+        ((λ _. (b, refl, record { grows = k.history; count = counted r.g.book r.g.mark; bounded = omega arith; marks = k.marks; kept = r.kept.known id v at; sealed = λ n y. below_pin r.pins n id v at (r.sealed n y) })), λ not. absurd (not hit)),
+      ))
+      (λ miss. (
+        with_refusal t v,
+        keeps,
+        tt,
+        subst (λ (n : ℕ). Rule (after s 2 n s.homes id (with_refusal t v))) (sym (ap (λ c. either c mine t) (ne_eqb t 0 miss))) (keeps_refusal s r id v sits),
+        ((λ hit. absurd (miss hit)), λ _. refl),
+      ))

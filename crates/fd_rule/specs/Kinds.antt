@@ -1,0 +1,19 @@
+-- One file for each kind of step: what it asks of a seat, what the seat is after it and is told, and the step on the table.
+pub mod Announcement
+pub mod BatchLanding
+pub mod DrawnLoad
+pub mod FloorRaise
+pub mod LaneClearance
+pub mod LaneLoad
+pub mod MarkLoad
+pub mod MarkRaise
+pub mod NumberDraw
+pub mod PinArrival
+pub mod PinDeparture
+pub mod PinScan
+pub mod PinSettlement
+pub mod SeatJoin
+pub mod SeatSplit
+pub mod SyncedLoad
+pub mod TurnReturn
+pub mod TurnTry

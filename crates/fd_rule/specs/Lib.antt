@@ -1,0 +1,10 @@
+pub mod Closing
+pub mod Events
+pub mod Kinds
+pub mod Lists
+pub mod Passes
+pub mod Rule
+pub mod Seats
+pub mod Slots
+pub mod Tables
+pub mod View
