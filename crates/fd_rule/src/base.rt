@@ -32,6 +32,7 @@ pub type Board<P> = Table<SlotValue<P>, SeatView, Opening<P>, BaseRule, Global>;
 
 /// The table that the seats of a store share. Seats borrow it; nobody owns the shelf but whoever
 /// holds the turn.
+#[derive(Drop)]
 pub struct Base<P: Held> {
     pub(crate) board: Board<P>,
     pub(crate) count: u32,

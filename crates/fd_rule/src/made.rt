@@ -4,6 +4,7 @@ use fd_kinds::Held;
 use fd_shelf::Shelf;
 
 /// A base, and the pass of its one seat, number 0, from which the others are split off.
+#[derive(Drop)]
 pub struct Made<P: Held> {
     pub base: Base<P>,
     pub first: Pass,

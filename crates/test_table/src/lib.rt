@@ -1,0 +1,21 @@
+//! Worked examples of the shared table, call by call, and two threads over one table. They stand
+//! beside `fd_rule`, whose contracts alone prove them.
+#![tactic(auto)]
+
+mod endings;
+mod pins;
+mod seats;
+mod stub;
+mod sweeps;
+#[cfg(test)]
+mod tests;
+mod threads;
+mod writes;
+
+pub use endings::end_both;
+pub use pins::{limit, pin, report};
+pub use seats::{Four, four_seats};
+pub use stub::{Stub, loose};
+pub use sweeps::sweep;
+pub use threads::write_both;
+pub use writes::{begin, end, write_many, write_swept};
