@@ -1,37 +1,20 @@
 -- What is left where the table is closed.
-use Rattle.std.proofs.Common.{◌≡◌, ◌≢◌, ◌⊎◌, ℕ, zero, suc, ◌+◌, ◌*◌, ◌-◌, ◌^◌, ◌<◌, ◌≤◌, ◌%◌, Bool, true, false, ◌||◌, ◌&&◌, cond, List, [], ◌∷◌, ◌++◌, length, get_or, set, min, max, sym, refl, ap, ◌∙◌, subst, ⊎_elim, inl, inr, arith, length-append, append_assoc, eqb, eq-eqb, ne_eqb}
-use Rattle.std.proofs.Math.Dec.{ltb}
-use Rattle.std.proofs.Math.Nat.{mod-eq_of_lt}
-use Rattle.std.proofs.lemmas.Bool.{le-ltb}
-use prog.Atomic.{either}
-use mathlib.Core.Logic.{dite}
-use mathlib.Core.Option.{Option, none, some, some-injective, some-ne-none}
-use native.Mathlib.Decide.{ℕ_discrete, dec_lt}
+use Rattle.std.proofs.Common.{◌≡◌, ◌≢◌, ℕ, ◌+◌, ◌<◌, Bool, true, false, cond, List, ◌∷◌, min, sym, refl, ap, ◌∙◌, ⊎_elim, arith, eqb, eq-eqb}
+use mathlib.Core.Option.{some}
 use lib.ListN.{get_elem?}
-use Rattle.atomic_table.specs.Table.{State, step, keeps, takes, gives, stepped, Allows, Splits, Joins, rest as others, opening, Final}
-use Rattle.atomic_table.proofs.Lists.{set_here, set_else}
-use Rattle.fd_kinds.specs.declared.row.Row.{Row}
-use Rattle.fd_kinds.specs.Parts.{PartMeaning, loose_part}
-use Rattle.fd_kinds.specs.History.{History, IsSmall}
-use Rattle.fd_kinds.specs.Stores.{Grows, Written}
-use Rattle.fd_shelf.specs.Books.{Book, Shelved, all_parts, settled_parts}
-use Rattle.fd_shelf.specs.Marks.{IsBook}
-use Rattle.fd_shelf.specs.Books.{Each as AllOf}
-use Rattle.fd_shelf.specs.Histories.{hist, batch_at, in_row_order}
-use Rattle.fd_shelf.specs.Numbers.{IsIn, IsInSealed, Keeps}
-use Rattle.fd_shelf.specs.Stragglers.{with_straggler}
-use Rattle.fd_rule.specs.Lists.{AllUpto, In, Tops, AllHeld}
-use Rattle.fd_rule.specs.Tables.{TableState, Seated, Homes, Sits, after, word, empties}
-use Rattle.fd_rule.specs.View.{IDLE, NONE, PinState, idle, arriving, settled, Hand, bare, laden, Place, TurnView, Draws, Knowledge, Pinning, View, no_view, no_draws, no_pinning, first, loaded, idle_words}
-use Rattle.fd_rule.specs.Rule.{Each, place, turn, draws, seen, books, pinning, whole, Stage, free, flying, full, looked, Globals, Words, Order, AtHome, Booked, Sealed, LaneOk, Lanes, sum, one_if, count_of, count_in, owns, seated, holding, clearance, splitting, Counts, Placed, Roster, Live, Entry, Owned, Flies, Draw, Drawing, OutOf, HandOk, InTurn, Hands, Saw, Kept, PinOk, PinningOk, Pins, Ruled}
+use Rattle.atomic_table.specs.Table.{Final}
+use Rattle.fd_kinds.specs.Parts.{PartMeaning}
+use Rattle.fd_shelf.specs.Books.{Shelved, all_parts}
+use Rattle.fd_shelf.specs.Histories.{in_row_order}
+use Rattle.fd_shelf.specs.Numbers.{IsIn}
+use Rattle.fd_rule.specs.Tables.{TableState}
+use Rattle.fd_rule.specs.View.{View, no_view}
+use Rattle.fd_rule.specs.Rule.{one_if, count_in, owns, seated, holding, Ruled}
 use Rattle.fd_rule.specs.declared.slot.SlotValue.{SlotValue}
-use Rattle.fd_rule.specs.declared.slot.SlotValue.TheVariants.{Empty, Home, Landed}
-use Rattle.fd_rule.proofs.Stay.{below, moves, stays, same, grows, alike, alone}
-use Rattle.fd_rule.proofs.Sets.{put, put_here, put_else, put_both, put_one, length_set, load, store_drawn, store_mark, store_taken, store_synced, store_floor, store_lane, store_pin, same_pins}
-use Rattle.fd_rule.proofs.Sums.{sum_set, sum_same, sum_one, sum_two, sum_push, sum_most, sum_alone, one_most, one_or}
-use Rattle.fd_rule.proofs.PinChanges.{pins_same, pins_up, pins_scan, pins_stand, pins_load, pins_grow, at_stand, below_pin}
-use Rattle.fd_rule.proofs.BookChanges.{BookLaws, StragglerLaws, in_front, sealed_in, keeps_same, keeps_then, all_keep, straggler_more, straggler_new, straggler_less, straggler_keeps, grows_same, grows_then, hist_grows, batch_same}
-use Rattle.fd_rule.proofs.Keep.{upto_later, upto_more, in_upto, all_map, all_append, count_append, in_append, entry_is, tops_of, flag_true, both_true, by_stage, nth, lane_rows, draw_flag, draw_stage, draw_book, roster_same, lanes_same, lives_same, numbers_same, seats_same, holders_same, splitters_same, room_same, counts_same, looks}
+use Rattle.fd_rule.specs.declared.slot.SlotValue.TheVariants.{Home}
+use Rattle.fd_rule.proofs.Stay.{below}
+use Rattle.fd_rule.proofs.Sums.{sum_two, sum_alone}
+use Rattle.fd_rule.proofs.Keep.{all_map}
 use Rattle.fd_rule.specs.Closing.{IsClosed}
 use Rattle.atomic_table.specs.Table.{Seen as IsSeen}
 

@@ -1,10 +1,10 @@
 -- What becomes of the pins when one view changes.
-use Rattle.std.proofs.Common.{◌≡◌, ◌≢◌, ℕ, ◌+◌, ◌^◌, ◌<◌, ◌≤◌, List, [], ◌∷◌, ◌++◌, length, set, min, sym, refl, ap, ◌∙◌, subst, arith, inl, inr, length-append}
+use Rattle.std.proofs.Common.{◌≡◌, ℕ, ◌+◌, ◌<◌, ◌≤◌, List, [], ◌∷◌, ◌++◌, length, set, min, sym, refl, subst, arith, inl, inr, length-append}
 use mathlib.Core.Option.{some}
 use lib.ListN.{get_elem?}
 use Rattle.fd_rule.specs.Kinds.TurnTry.{Below}
 use Rattle.fd_rule.specs.Lists.{In}
-use Rattle.fd_rule.specs.Rule.{Each, pinning, PinOk, PinningOk, Pins}
+use Rattle.fd_rule.specs.Rule.{PinOk, PinningOk, Pins}
 use Rattle.fd_rule.specs.View.{IDLE, NONE, PinState, idle, arriving, settled, Pinning, View, loaded, no_pinning}
 use Rattle.fd_rule.proofs.Stay.{below, moves, same, grows}
 use Rattle.fd_rule.proofs.Sets.{put, put_both, length_set}

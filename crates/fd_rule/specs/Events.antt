@@ -23,7 +23,6 @@ use Rattle.fd_rule.specs.Kinds.SeatSplit.{Happens as Splits}
 use Rattle.fd_rule.specs.Kinds.SyncedLoad.{Happens as LoadsSynced}
 use Rattle.fd_rule.specs.Kinds.TurnReturn.{Happens as GivesTurn}
 use Rattle.fd_rule.specs.Kinds.TurnTry.{Happens as TriesTurn}
-use Rattle.fd_rule.specs.Rule.{Ruled}
 use Rattle.fd_rule.specs.Tables.{TableState, empties}
 use Rattle.fd_rule.specs.View.{first, first_words}
 use Rattle.fd_rule.specs.declared.slot.SlotValue.TheVariants.{Home}

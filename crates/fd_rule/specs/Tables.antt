@@ -2,8 +2,8 @@
 --
 -- Word 0 is the greatest number drawn, word 1 the mark, word 2 the turn, word 3 the greatest number reported synced, word 4
 -- the floor, word 2 k + 5 the lane of seat k and word 2 k + 6 its pin. Slot 0 is the shelf's, slot k + 1 that of lane k.
-use Rattle.std.specs.Prelude.{◌≡◌, ℕ, zero, suc, ◌+◌, ◌*◌, false, List, [], ◌∷◌, slice_index, slice_set}
-use mathlib.Core.Option.{Option, none, some}
+use Rattle.std.specs.Prelude.{◌≡◌, ℕ, zero, suc, false, List, [], ◌∷◌, slice_index, slice_set}
+use mathlib.Core.Option.{Option, some}
 use lib.ListN.{get_elem?}
 use Rattle.atomic_table.specs.Table.{State, Me}
 use Rattle.fd_rule.specs.View.{View}

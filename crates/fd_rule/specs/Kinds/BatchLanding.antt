@@ -1,5 +1,5 @@
 -- Land: the number in flight stands in the seat's lane word, and its part in the slot of the lane.
-use Rattle.std.specs.Prelude.{◌≡◌, ◌≢◌, ℕ, ◌+◌, ◌*◌, false, List, [], slice_set}
+use Rattle.std.specs.Prelude.{◌≡◌, ◌≢◌, ℕ, ◌+◌, ◌*◌, false, [], slice_set}
 use mathlib.Core.Option.{some}
 use Rattle.atomic_table.specs.Table.{Step, rest}
 use Rattle.fd_kinds.specs.Parts.{PartMeaning, loose_part}

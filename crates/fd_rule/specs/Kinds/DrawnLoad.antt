@@ -1,5 +1,5 @@
 -- Load of the greatest number drawn: where it is below 2^62, the seat is cleared to draw.
-use Rattle.std.specs.Prelude.{◌≡◌, ℕ, ◌+◌, ◌^◌, List, [], ◌∷◌, ◌++◌}
+use Rattle.std.specs.Prelude.{◌≡◌, ℕ, ◌+◌, ◌^◌, [], ◌∷◌, ◌++◌}
 use Rattle.std.proofs.Math.Dec.{ltb}
 use Rattle.atomic_table.specs.Table.{Step}
 use Rattle.fd_rule.specs.Lists.{AllUpto, Tops}

@@ -1,6 +1,6 @@
 -- Load of a lane word. A seat that finds its own lane at 0 knows that it is empty. The holder of the turn has looked at the
 -- lane in this turn, and the slot of a lane that it finds filled is out with it.
-use Rattle.std.specs.Prelude.{◌≡◌, ◌≢◌, ◌⊎◌, ℕ, ◌+◌, ◌*◌, ◌<◌, ◌^◌, Bool, true, false, ◌||◌, ◌&&◌, List, [], ◌∷◌, eqb, slice_set}
+use Rattle.std.specs.Prelude.{◌≡◌, ◌≢◌, ◌⊎◌, ℕ, ◌+◌, ◌*◌, ◌<◌, ◌^◌, true, false, ◌||◌, ◌&&◌, ◌∷◌, eqb, slice_set}
 use mathlib.Core.Option.{some, none}
 use lib.ListN.{get_elem?}
 use Rattle.atomic_table.specs.Table.{Step}

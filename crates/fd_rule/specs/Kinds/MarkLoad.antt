@@ -1,5 +1,5 @@
 -- Load of the mark: an arriving seat may pin it. A seat that opens a scan has it as the scan's limit, and begins with seat 0.
-use Rattle.std.specs.Prelude.{◌≡◌, ℕ, ◌≤◌, Bool, true, false, if◌then◌else◌, List, [], ◌∷◌, ◌++◌, length}
+use Rattle.std.specs.Prelude.{◌≡◌, ℕ, ◌≤◌, Bool, true, if◌then◌else◌, [], ◌∷◌, ◌++◌, length}
 use Rattle.atomic_table.specs.Table.{Step}
 use Rattle.fd_rule.specs.Lists.{AllUpto}
 use Rattle.fd_rule.specs.Tables.{TableState, Seated, Sits, after, word}

@@ -1,6 +1,6 @@
 -- Join: a seat takes over the numbers of another, its own numbers and what it knows of books, and keeps the longer history
 -- and the greater floor. It is a load of word 0.
-use Rattle.std.specs.Prelude.{◌≡◌, ◌≢◌, ℕ, ◌<◌, max, true, false, ◌||◌, if◌then◌else◌, List, [], ◌∷◌, ◌++◌, length, slice_set}
+use Rattle.std.specs.Prelude.{◌≡◌, ◌≢◌, ℕ, max, true, false, ◌||◌, if◌then◌else◌, List, ◌∷◌, ◌++◌, length, slice_set}
 use Rattle.std.proofs.Math.Dec.{ltb}
 use Rattle.fd_rule.specs.Tables.{TableState, Sits}
 use Rattle.fd_rule.specs.View.{View, idle, no_view}

@@ -1,6 +1,6 @@
 -- Split: a new seat has the least number that was not split off, and begins with what the other has seen. It is a load of
 -- word 0.
-use Rattle.std.specs.Prelude.{◌≡◌, ℕ, ◌+◌, ◌<◌, true, false, List, [], ◌∷◌, ◌++◌, slice_set}
+use Rattle.std.specs.Prelude.{◌≡◌, ℕ, ◌+◌, ◌<◌, true, false, [], ◌∷◌, ◌++◌, slice_set}
 use Rattle.fd_rule.specs.Tables.{TableState, Sits}
 use Rattle.fd_rule.specs.View.{View, Place, no_turn, no_tries, no_draws, no_knowledge, no_pinning}
 

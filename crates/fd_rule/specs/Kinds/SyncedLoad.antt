@@ -1,5 +1,5 @@
 -- Load of the greatest number reported synced.
-use Rattle.std.specs.Prelude.{◌≡◌, ℕ, List, [], ◌∷◌, ◌++◌}
+use Rattle.std.specs.Prelude.{◌≡◌, ℕ, [], ◌∷◌, ◌++◌}
 use Rattle.atomic_table.specs.Table.{Step}
 use Rattle.fd_rule.specs.Lists.{AllUpto}
 use Rattle.fd_rule.specs.Tables.{TableState, Seated, Sits, after, word}

@@ -1,5 +1,5 @@
 -- Give turn: the shelf goes home, with the mark and the numbers of the book in hand, and what later books keep of it.
-use Rattle.std.specs.Prelude.{◌≡◌, ◌≢◌, ◌⊎◌, ℕ, ◌+◌, ◌<◌, ◌≤◌, true, List, [], ◌∷◌, ◌++◌, length, slice_set}
+use Rattle.std.specs.Prelude.{◌≡◌, ◌⊎◌, ℕ, ◌+◌, ◌<◌, ◌≤◌, true, List, [], ◌∷◌, ◌++◌, length, slice_set}
 use mathlib.Core.Option.{some}
 use Rattle.atomic_table.specs.Table.{Step, rest}
 use Rattle.fd_shelf.specs.Books.{Book, Shelved, all_parts}
@@ -9,7 +9,7 @@ use Rattle.fd_shelf.specs.Numbers.{IsIn, IsInSealed, Keeps, first_unsealed}
 use Rattle.fd_shelf.specs.Steps.{empty_book}
 use Rattle.fd_rule.specs.Lists.{In, AllHeld}
 use Rattle.fd_rule.specs.Tables.{TableState, Seated, Sits, after}
-use Rattle.fd_rule.specs.View.{View, TurnView, Given, no_turn, bare}
+use Rattle.fd_rule.specs.View.{View, Given, no_turn, bare}
 use Rattle.fd_rule.specs.declared.slot.SlotValue.{SlotValue}
 use Rattle.fd_rule.specs.declared.slot.SlotValue.TheVariants.{Empty, Home, Landed}
 

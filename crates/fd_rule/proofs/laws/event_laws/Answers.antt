@@ -1,4 +1,3 @@
-use Rattle.fd_rule.proofs.BookChanges.{StragglerLaws}
 use Rattle.fd_rule.proofs.EventLaws.{event_keeps, events_keep}
 use Rattle.fd_rule.specs.Events.{opening_of}
 use Rattle.fd_rule.proofs.laws.event_laws.Goals as goal

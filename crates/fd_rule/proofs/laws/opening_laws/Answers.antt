@@ -1,4 +1,3 @@
-use Rattle.fd_rule.proofs.BookChanges.{BookLaws}
 use Rattle.fd_rule.proofs.EventLaws.{opening_keeps}
 use Rattle.fd_rule.proofs.laws.opening_laws.Goals as goal
 

@@ -1,6 +1,5 @@
 use Rattle.std.proofs.Common.{rules, sym, ◌≡◌, ℕ, List}
 use Rattle.atomic_table.specs.Table.{opening}
-use Rattle.fd_shelf.specs.Books.{Shelved}
 use Rattle.fd_rule.specs.Rule.{Ruled}
 use Rattle.fd_rule.specs.View.{first}
 use Rattle.fd_rule.specs.declared.slot.SlotValue.{SlotValue}

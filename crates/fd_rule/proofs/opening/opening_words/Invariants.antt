@@ -1,4 +1,4 @@
-use Rattle.std.proofs.Common.{◌≡◌, ◌∷◌}
+use Rattle.std.proofs.Common.{◌≡◌}
 use Rattle.fd_rule.specs.View.{first_words}
 use Rattle.fd_rule.proofs.opening.opening_words.Given as goal
 

@@ -1,4 +1,4 @@
-use Rattle.std.proofs.Common.{rules, refl}
+use Rattle.std.proofs.Common.{rules}
 use Rattle.fd_rule.proofs.Announces.{allows_announcement}
 use Rattle.fd_rule.proofs.kinds.announcement.announce.Goals as goal
 

@@ -1,4 +1,4 @@
-use Rattle.std.proofs.Common.{rules, refl}
+use Rattle.std.proofs.Common.{rules}
 use Rattle.fd_rule.proofs.DrawnLoads.{allows_drawn_load}
 use Rattle.fd_rule.proofs.kinds.drawn_load.load_drawn.Goals as goal
 

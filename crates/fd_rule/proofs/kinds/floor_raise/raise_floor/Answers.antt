@@ -1,4 +1,4 @@
-use Rattle.std.proofs.Common.{rules, refl}
+use Rattle.std.proofs.Common.{rules}
 use Rattle.fd_rule.proofs.FloorRaises.{allows_floor_raise}
 use Rattle.fd_rule.proofs.kinds.floor_raise.raise_floor.Goals as goal
 

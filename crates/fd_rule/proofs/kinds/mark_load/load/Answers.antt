@@ -1,4 +1,4 @@
-use Rattle.std.proofs.Common.{rules, refl, false}
+use Rattle.std.proofs.Common.{rules, false}
 use Rattle.fd_rule.proofs.MarkLoads.{allows_mark_load}
 use Rattle.fd_rule.proofs.kinds.mark_load.load.Goals as goal
 

@@ -1,4 +1,4 @@
-use Rattle.std.proofs.Common.{rules, refl, true}
+use Rattle.std.proofs.Common.{rules, true}
 use Rattle.fd_rule.proofs.MarkLoads.{allows_mark_load}
 use Rattle.fd_rule.proofs.kinds.mark_load.open_scan.Goals as goal
 

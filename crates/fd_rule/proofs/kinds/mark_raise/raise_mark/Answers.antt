@@ -1,4 +1,4 @@
-use Rattle.std.proofs.Common.{rules, refl}
+use Rattle.std.proofs.Common.{rules}
 use Rattle.fd_rule.proofs.MarkRaises.{allows_mark_raise}
 use Rattle.fd_rule.proofs.kinds.mark_raise.raise_mark.Goals as goal
 

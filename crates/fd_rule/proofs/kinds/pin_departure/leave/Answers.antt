@@ -1,4 +1,4 @@
-use Rattle.std.proofs.Common.{rules, refl}
+use Rattle.std.proofs.Common.{rules}
 use Rattle.fd_rule.proofs.PinSteps.{allows_departure}
 use Rattle.fd_rule.proofs.kinds.pin_departure.leave.Goals as goal
 

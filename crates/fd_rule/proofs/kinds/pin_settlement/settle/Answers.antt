@@ -1,4 +1,4 @@
-use Rattle.std.proofs.Common.{rules, refl}
+use Rattle.std.proofs.Common.{rules}
 use Rattle.fd_rule.proofs.PinSteps.{allows_settlement}
 use Rattle.fd_rule.proofs.kinds.pin_settlement.settle.Goals as goal
 

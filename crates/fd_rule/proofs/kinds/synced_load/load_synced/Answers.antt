@@ -1,4 +1,4 @@
-use Rattle.std.proofs.Common.{rules, refl}
+use Rattle.std.proofs.Common.{rules}
 use Rattle.fd_rule.proofs.SyncedLoads.{allows_synced_load}
 use Rattle.fd_rule.proofs.kinds.synced_load.load_synced.Goals as goal
 
