@@ -1,15 +1,13 @@
 -- What the steps of a test make of a seat.
-use Rattle.std.proofs.Common.{◌≡◌, ◌≢◌, ℕ, ◌+◌, ◌^◌, ◌<◌, ◌≤◌, Bool, true, false, ◌||◌, ◌&&◌, List, [], ◌∷◌, ◌++◌, sym, refl, ap, ◌∙◌, subst, inl, inr, arith, cond, eqb, eq-eqb}
+use Rattle.std.proofs.Common.{◌≡◌, ℕ, ◌^◌, ◌<◌, ◌≤◌, Bool, true, false, ◌||◌, ◌&&◌, List, [], ◌∷◌, ◌++◌, sym, refl, ap, ◌∙◌, subst, inl, inr, arith, cond, eqb, eq-eqb}
 use mathlib.Core.Logic.{dite}
 use native.Mathlib.Decide.{ℕ_discrete}
-use Rattle.std.proofs.Math.Dec.{ltb}
 use Rattle.std.proofs.lemmas.Bool.{lt-ltb}
 use Rattle.atomic_table.specs.Table.{rest}
 use Rattle.fd_kinds.specs.Parts.{PartMeaning, loose_part}
 use Rattle.fd_kinds.specs.Stores.{Written}
 use Rattle.fd_shelf.specs.Books.{Book, Shelved, all_parts}
 use Rattle.fd_shelf.specs.Histories.{hist}
-use Rattle.fd_shelf.specs.Marks.{IsBook}
 use Rattle.fd_shelf.specs.Numbers.{IsIn, IsInSealed, Keeps}
 use Rattle.fd_shelf.specs.Steps.{admitted}
 use Rattle.fd_rule.specs.Kinds.DrawnLoad.{with_drawn}

@@ -1,5 +1,5 @@
 -- What a seat stands at between the calls of a test.
-use Rattle.std.specs.Prelude.{◌≡◌, ℕ, ◌+◌, true, false, [], ◌∷◌}
+use Rattle.std.specs.Prelude.{◌≡◌, ◌+◌, true, false, [], ◌∷◌}
 use Rattle.fd_kinds.specs.Parts.{PartMeaning}
 use Rattle.fd_shelf.specs.Books.{Shelved}
 use Rattle.fd_rule.specs.Kinds.BatchLanding.{MayLand}

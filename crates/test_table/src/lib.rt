@@ -13,7 +13,7 @@ mod threads;
 mod writes;
 
 pub use endings::end_both;
-pub use pins::{limit, pin, report};
+pub use pins::{lift, limit, pin, report};
 pub use seats::{Four, four_seats};
 pub use stub::{Stub, loose};
 pub use sweeps::sweep;

@@ -4,7 +4,7 @@ ghost use Rattle.fd_rule.specs.Seats.{IsSameSeat, seat_count, seat_view};
 ghost use Rattle.test_table.specs.Seats.{AtRest};
 
 use crate::stub::Stub;
-use fd_rule::{Seat, announce, arrive, load_mark, scan_pin, settle};
+use fd_rule::{Seat, announce, arrive, load_mark, raise_floor, scan_pin, settle};
 
 /// Pins the mark.
 pub fn pin(seat: &mut Seat<Stub>) -> u64
@@ -33,6 +33,16 @@ pub fn limit(seat: &mut Seat<Stub>) -> u64
         limit = limit.min(scan_pin(seat));
     }
     limit
+}
+
+/// Raises the floor to the limit.
+pub fn lift(seat: &mut Seat<Stub>) -> u64
+    ensures same { IsSameSeat seat.old seat.new }
+    ensures place { (seat_view seat.new).place ≡ (seat_view seat.old).place }
+{
+    let least = limit(seat);
+    raise_floor(seat, least);
+    least
 }
 
 /// Seat 0 reports all numbers up to the mark as synced.

@@ -1,8 +1,8 @@
 use crate::seats::{Four, four_seats};
 use crate::stub::Stub;
-use crate::{begin, end, end_both, limit, pin, report, sweep, write_both, write_swept};
+use crate::{begin, end, end_both, lift, limit, pin, report, sweep, write_both, write_swept};
 use fd_kinds::Held;
-use fd_rule::{Base, Made, Seat, leave, load_synced, raise_floor, split};
+use fd_rule::{Base, Made, Seat, leave, load_synced, split};
 use fd_shelf::Shelf;
 use std::test::Fail;
 
@@ -43,9 +43,7 @@ fn no_limit_passes_a_pin(rt: HostRuntime) -> Result<(), Fail> {
     assert_eq!(rt; write_swept(&mut late, 3), 3);
     assert_eq!(rt; pin(&mut early), 3);
     assert_eq!(rt; write_swept(&mut late, 4), 7);
-    let least = limit(&mut compactor);
-    assert_eq!(rt; least, 3);
-    raise_floor(&mut compactor, least);
+    assert_eq!(rt; lift(&mut compactor), 3);
     leave(&mut early);
     assert_eq!(rt; limit(&mut compactor), 7);
     assert_eq!(rt; report(&mut keeper), 7);

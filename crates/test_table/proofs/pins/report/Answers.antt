@@ -1,4 +1,4 @@
-use Rattle.std.proofs.Common.{sym, ap, ◌∙◌, subst, arith, ◌≡◌, ◌++◌, [], ◌∷◌, List, ℕ}
+use Rattle.std.proofs.Common.{sym, subst, arith}
 use Rattle.fd_rule.specs.Kinds.Announcement.{MayAnnounce}
 use Rattle.fd_rule.specs.Tables.{Seated}
 use Rattle.test_table.specs.declared.stub.Stub.{Stub}

@@ -1,8 +1,7 @@
-use Rattle.std.proofs.Common.{rules, sym, ap, ◌∙◌, subst, ℕ}
+use Rattle.std.proofs.Common.{sym, ap, ◌∙◌, subst, ℕ}
 use Rattle.fd_rule.specs.Kinds.MarkRaise.{MayRaise, with_raised}
 use Rattle.fd_rule.specs.Kinds.TurnReturn.{MayReturn}
 use Rattle.fd_rule.specs.Tables.{Seated}
-use Rattle.fd_rule.specs.declared.slot.SlotValue.TheVariants.{Empty}
 use Rattle.test_table.specs.declared.stub.Stub.{Stub}
 use Rattle.test_table.specs.Stubs.{stub_meaning}
 use Rattle.test_table.proofs.SeatSteps.{may_raise, may_return}
