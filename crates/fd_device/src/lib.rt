@@ -5,13 +5,19 @@
 mod adapters;
 mod buffers;
 mod calls;
+mod disk;
+mod files;
 mod memory;
 mod sink;
 mod source;
+mod synced;
 
 pub use adapters::{StdSink, StdSource};
 pub use buffers::{PlainSink, PlainSource};
 pub use calls::Calls;
+pub use disk::Disk;
+pub use files::{DiskFault, FileId, FileKind};
 pub use memory::{MemSink, MemSource};
 pub use sink::{Put, Sink};
 pub use source::{Source, Taken};
+pub use synced::{cut_synced, write_synced};
