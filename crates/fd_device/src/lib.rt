@@ -5,10 +5,14 @@
 mod adapters;
 mod buffers;
 mod calls;
+mod changes;
 mod disk;
+mod file_bytes;
 mod files;
 mod memory;
+mod plain_disk;
 mod sink;
+mod slots;
 mod source;
 mod synced;
 
@@ -18,6 +22,7 @@ pub use calls::Calls;
 pub use disk::Disk;
 pub use files::{DiskFault, FileId, FileKind};
 pub use memory::{MemSink, MemSource};
+pub use plain_disk::PlainDisk;
 pub use sink::{Put, Sink};
 pub use source::{Source, Taken};
 pub use synced::{cut_synced, write_synced};

@@ -36,11 +36,11 @@ pub fn write_synced<D: Disk>(
     ensures any_moment_from_settled { D.honest disk.old
         → Settled (D.seen disk.old) (D.may_leave disk.old)
         → LeavesOnly D.moment D.left_since disk.old disk.new
-            (Steps file (Torn at (length piece.now)) (D.seen disk.old)) }
+        (Steps file (Torn at (length piece.now)) (D.seen disk.old)) }
     ensures others_at_any_moment { D.honest disk.old
         → Settled (D.seen disk.old) (D.may_leave disk.old)
         → LeavesOnly D.moment D.left_since disk.old disk.new
-            (OthersStay file (D.seen disk.old)) }
+        (OthersStay file (D.seen disk.old)) }
     ensures cause { MatchResult result (λ _. D.faults disk.new ≡ D.faults disk.old)
         (λ _. Rose (D.faults disk.old) (D.faults disk.new)) }
 {
@@ -73,11 +73,11 @@ pub fn cut_synced<D: Disk>(disk: &mut D, file: FileId, size: u64) -> Result<(), 
     ensures any_moment_from_settled { D.honest disk.old
         → Settled (D.seen disk.old) (D.may_leave disk.old)
         → LeavesOnly D.moment D.left_since disk.old disk.new
-            (Steps file (Cut size) (D.seen disk.old)) }
+        (Steps file (Cut size) (D.seen disk.old)) }
     ensures others_at_any_moment { D.honest disk.old
         → Settled (D.seen disk.old) (D.may_leave disk.old)
         → LeavesOnly D.moment D.left_since disk.old disk.new
-            (OthersStay file (D.seen disk.old)) }
+        (OthersStay file (D.seen disk.old)) }
     ensures cause { MatchResult result (λ _. D.faults disk.new ≡ D.faults disk.old)
         (λ _. Rose (D.faults disk.old) (D.faults disk.new)) }
 {

@@ -16,7 +16,7 @@ returns-clause-any_moment g c = λ honest.
     let honest_mid = c.write_at.ensures.honesty.0 honest in
     then_sync d.moment d.left_since d.may_leave c.args.disk.now c.write_at.new.self c.sync.new.self (Reaches step (d.may_leave c.args.disk.now))
     (first_call d.moment d.left_since d.may_leave c.args.disk.now c.write_at.new.self step
-      (λ (image : Files) left. g.met.D.Disk.only_now c.args.disk.now image honest left) (torn_stays c.args.file c.args.at (length c.args.piece.now)) (c.write_at.ensures.time honest) (c.write_at.ensures.crash honest))
+    (λ (image : Files) left. g.met.D.Disk.only_now c.args.disk.now image honest left) (torn_stays c.args.file c.args.at (length c.args.piece.now)) (c.write_at.ensures.time honest) (c.write_at.ensures.crash honest))
     (c.sync.ensures.time honest_mid) (c.sync.ensures.crash honest_mid) (c.write_at.ensures.crash honest)
 
 pub returns-clause-others_at_any_moment : goal.returns-clause-others_at_any_moment
@@ -26,6 +26,6 @@ returns-clause-others_at_any_moment g c = λ honest settled.
     let honest_mid = c.write_at.ensures.honesty.0 honest in
     others_settled d.moment d.left_since d.may_leave c.args.disk.now c.sync.new.self c.args.file (Torn c.args.at (length c.args.piece.now)) (d.seen c.args.disk.now) settled
     (then_sync d.moment d.left_since d.may_leave c.args.disk.now c.write_at.new.self c.sync.new.self (Reaches step (d.may_leave c.args.disk.now))
-      (first_call d.moment d.left_since d.may_leave c.args.disk.now c.write_at.new.self step
-        (λ (image : Files) left. g.met.D.Disk.only_now c.args.disk.now image honest left) (torn_stays c.args.file c.args.at (length c.args.piece.now)) (c.write_at.ensures.time honest) (c.write_at.ensures.crash honest))
-      (c.sync.ensures.time honest_mid) (c.sync.ensures.crash honest_mid) (c.write_at.ensures.crash honest))
+    (first_call d.moment d.left_since d.may_leave c.args.disk.now c.write_at.new.self step
+    (λ (image : Files) left. g.met.D.Disk.only_now c.args.disk.now image honest left) (torn_stays c.args.file c.args.at (length c.args.piece.now)) (c.write_at.ensures.time honest) (c.write_at.ensures.crash honest))
+    (c.sync.ensures.time honest_mid) (c.sync.ensures.crash honest_mid) (c.write_at.ensures.crash honest))
