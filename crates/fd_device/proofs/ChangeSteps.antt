@@ -1,5 +1,5 @@
 -- One change more of a disk in memory.
-use Rattle.std.proofs.Common.{◌≡◌, ℕ, ◌+◌, ◌-◌, ◌≤◌, List, [], ◌∷◌, ◌++◌, length, take, drop, max, min, ◌⊎◌, inl, inr, append_assoc, length-append, length-drop, refl, sym, ◌∙◌, ap, subst, arith}
+use Rattle.std.proofs.Common.{◌≡◌, ℕ, ◌+◌, ◌-◌, ◌≤◌, List, [], ◌∷◌, ◌++◌, length, take, drop, ◌⊎◌, inl, inr, append_assoc, length-append, length-drop, refl, sym, ◌∙◌, ap, subst, arith}
 use Rattle.std.proofs.lemmas.Bool.{cond-true, cond-false, cases_lt}
 use Rattle.std.proofs.lemmas.List.{take_at, drop_at, drop-drop, length-take-le, take-append-le}
 use Rattle.std.proofs.Math.Seq.{take-length}
@@ -7,7 +7,7 @@ use Rattle.fd_device.specs.Disks.{Files, no_files, changed, written, same_file, 
 use Rattle.fd_device.specs.Changes.{apply, replay, state_at, WasAt}
 use Rattle.fd_device.specs.declared.changes.Change.{Change}
 use Rattle.fd_device.specs.declared.files.FileId.{FileId}
-use Rattle.fd_device.proofs.DiskSteps.{same_file-refl}
+use Rattle.fd_device.proofs.DiskSteps.{same_file-refl, Torn-refl}
 
 pub replay-push : (changes : List Change) (change : Change) (files : Files) → replay (changes ++ change ∷ []) files ≡ apply change (replay changes files)
 replay-push [] change files = refl
@@ -41,6 +41,13 @@ torn_part at n piece old fits less =
     further a b j k same le =
         let sum : j + (k - j) ≡ k = omega arith in
         ap (λ (i : ℕ). drop i a) (sym sum) ∙ sym (drop-drop (k - j) j a) ∙ ap (drop (k - j)) same ∙ drop-drop (k - j) j b ∙ ap (λ (i : ℕ). drop i b) sum
+
+-- a copy is one outcome
+pub torn_copy : (at n : ℕ) (old new : List ℕ) → new ≡ old → Torn at n old new
+torn_copy at n old new same = subst (λ (l : List ℕ). Torn at n old l) (sym same) (Torn-refl at n old)
+
+pub torn_writes : (at n : ℕ) (part old copy new : List ℕ) → copy ≡ old → at ≤ length old → length part ≤ n → new ≡ written at part copy → Torn at n old new
+torn_writes at n part old copy new same fits less is = subst (λ (l : List ℕ). Torn at n old l) (sym (is ∙ ap (written at part) same)) (torn_part at n part old fits less)
 
 -- a cut that is done at once is one outcome of it
 pub cut_done : (size : ℕ) (old : List ℕ) → size ≤ length old → Cut size old (take size old)

@@ -1,9 +1,9 @@
 -- One call of a disk after another, and what a step of one file leaves.
-use Rattle.std.proofs.Common.{◌≡◌, ℕ, ◌+◌, ◌≤◌, List, length, take, drop, Bool, true, false, refl, sym, ◌∙◌, ap, subst, arith, eq-eqb}
-use Rattle.std.proofs.lemmas.Bool.{cond-true, cond-false, eqb-true}
+use Rattle.std.proofs.Common.{◌≡◌, ℕ, List, Bool, true, false, refl, sym, ◌∙◌, ap, subst, arith, eq-eqb}
+use Rattle.std.proofs.lemmas.Bool.{eqb-true}
 use Rattle.std.proofs.Math.Seq.{take-length}
 use Rattle.std.specs.Cmp.{first_so, second_so}
-use Rattle.fd_device.specs.Disks.{Files, same_kind, same_file, changed, Torn, Cut, Steps, Reaches, Follows, NoneNew, OthersStay, IsDurable, Settled, Elapses}
+use Rattle.fd_device.specs.Disks.{Files, same_kind, same_file, Torn, Cut, Steps, Reaches, Follows, NoneNew, OthersStay, IsDurable, Settled, Elapses}
 use Rattle.fd_device.specs.Moments.{LeavesOnly, moments_begin, moments_more, moments_weaker}
 use Rattle.fd_device.specs.declared.files.FileId.{FileId}
 use Rattle.fd_device.specs.declared.files.FileKind.{FileKind}

@@ -1,5 +1,5 @@
 -- Places of files among slots.
-use Rattle.std.proofs.Common.{◌≡◌, ℕ, zero, suc, ◌+◌, ◌<◌, ◌≤◌, List, [], ◌∷◌, ◌++◌, length, take, get_or, set, ◌⊎◌, inl, inr, refl, sym, ◌∙◌, ap, subst, arith, Bool, true, false, if◌then◌else◌}
+use Rattle.std.proofs.Common.{◌≡◌, ℕ, zero, suc, ◌+◌, ◌<◌, List, [], ◌∷◌, ◌++◌, length, take, get_or, set, inl, inr, refl, sym, ◌∙◌, ap, subst, arith, Bool, true, false, if◌then◌else◌}
 use Rattle.std.proofs.lemmas.Bool.{cond-true, cond-false, cases_Bool}
 use Rattle.std.proofs.lemmas.List.{take_all}
 use Rattle.fd_device.specs.Disks.{Files, changed, same_file}
@@ -131,6 +131,13 @@ module _ {T : Type 0} (get : T → List ℕ) where
         | inl is_file ↦ cond-true (same_file f file) (lookup get old f) (lookup get old f) is_file
         | inr other ↦ cond-false (same_file f file) (lookup get old f) (lookup get old f) other
       ]
+
+  -- a file that is not there has no bytes to change
+  pub absent_changes : (slots : List (Slot T)) (file : FileId) (bytes : List ℕ) → IsAbsent slots file → bytes ≡ [] → lookup get slots ≡ changed file (λ l. bytes) (lookup get slots)
+  absent_changes slots file bytes absent is =
+      let each : (f : FileId) → lookup get slots f ≡ changed file (λ l. bytes) (lookup get slots) f =
+      λ f. itself (lookup get slots) file f ∙ under_test f file (lookup get slots file) (lookup get slots f) (λ k. bytes) (nothing_at slots file absent ∙ sym is) in
+      λ j f. each f j
 
   -- a file that is not there has nothing to cut
   pub absent_cut : (slots : List (Slot T)) (file : FileId) (size : ℕ) → IsAbsent slots file → lookup get slots ≡ changed file (take size) (lookup get slots)

@@ -1,5 +1,5 @@
 -- What a crash at any moment of a run of disk calls leaves, and how such runs are joined.
-use Rattle.std.specs.Prelude.{ℕ, ◌≡◌, ◌≤◌, ◌⊎◌}
+use Rattle.std.specs.Prelude.{ℕ, ◌≤◌, ◌⊎◌}
 use Rattle.std.proofs.Common.{inl, inr, ⊎_elim, arith}
 use Rattle.fd_device.specs.Disks.{Files, Elapses}
 

@@ -1,5 +1,6 @@
-//! What the store reads from and writes to: sources and sinks of bytes, in memory and of the
-//! outside. A call answers a failure only where its object's count of faults rose in that call.
+//! What the store reads from and writes to: sources and sinks of bytes, and disks with files, in
+//! memory and of the outside. A call answers a failure only where its object's count of faults rose
+//! in that call.
 #![tactic(auto)]
 
 mod adapters;
@@ -11,8 +12,11 @@ mod file_bytes;
 mod files;
 mod folder;
 mod folder_disk;
+mod mem_disk;
+mod mem_file;
 mod memory;
 mod plain_disk;
+mod recorder;
 mod sink;
 mod slots;
 mod source;
@@ -24,6 +28,7 @@ pub use calls::Calls;
 pub use disk::Disk;
 pub use files::{DiskFault, FileId, FileKind};
 pub use folder_disk::FolderDisk;
+pub use mem_disk::MemDisk;
 pub use memory::{MemSink, MemSource};
 pub use plain_disk::PlainDisk;
 pub use sink::{Put, Sink};

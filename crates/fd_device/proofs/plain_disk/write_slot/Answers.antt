@@ -1,7 +1,6 @@
-use Rattle.std.proofs.Common.{sym, ◌∙◌, ◌≡◌, ap, subst, refl, arith, List, ℕ, length}
+use Rattle.std.proofs.Common.{sym, ◌∙◌, ap, arith, List, ℕ, length}
 use Rattle.std.proofs.lemmas.Result.{on_ok_weaker, on_err_weaker}
 use Rattle.fd_device.specs.Disks.{Files, written, changed}
-use Rattle.fd_device.specs.Slots.{lookup}
 use Rattle.fd_device.specs.declared.slots.Slot.{Slot}
 use Rattle.fd_device.proofs.SlotPlaces.{place_below, bytes_at, set_changes, set_same, grows_same}
 use Rattle.fd_device.proofs.plain_disk.write_slot.Goals as goal

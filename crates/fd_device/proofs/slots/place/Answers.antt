@@ -1,4 +1,4 @@
-use Rattle.std.proofs.Common.{List, [], ◌∷◌, ◌++◌, ◌∙◌, sym, subst, length, ap, ◌≡◌, ℕ, arith}
+use Rattle.std.proofs.Common.{List, [], ◌∷◌, ◌++◌, sym, subst, length, ◌≡◌, ℕ, arith}
 use Rattle.fd_device.specs.Slots.{IsPlace, IsAbsent}
 use Rattle.fd_device.specs.declared.slots.Slot.{Slot}
 use Rattle.fd_device.proofs.SlotPlaces.{place_push}

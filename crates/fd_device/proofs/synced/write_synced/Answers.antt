@@ -1,6 +1,6 @@
 use Rattle.std.proofs.Common.{length}
 use Rattle.fd_device.specs.Disks.{Files, Steps, Torn, Reaches}
-use Rattle.fd_device.proofs.DiskSteps.{first_call, then_sync, from_settled, others_settled, torn_stays}
+use Rattle.fd_device.proofs.DiskSteps.{first_call, then_sync, others_settled, torn_stays}
 use Rattle.fd_device.proofs.synced.write_synced.Goals as goal
 
 pub returns-in_err-write_at-clause-any_moment : goal.returns-in_err-write_at-clause-any_moment

@@ -1,6 +1,5 @@
-use Rattle.std.proofs.Common.{List, [], ◌∷◌, ◌++◌, ◌∙◌, ◌≤◌, length, sym, ap, subst, refl, arith}
+use Rattle.std.proofs.Common.{List, [], ◌∷◌, ◌++◌, ◌∙◌, length, sym, ap, subst, arith}
 use Rattle.fd_device.specs.Disks.{Files, no_files, Steps, Torn, written}
-use Rattle.fd_device.specs.Slots.{lookup}
 use Rattle.fd_device.specs.Changes.{Done, contents, replay}
 use Rattle.fd_device.specs.declared.changes.Change.{Change}
 use Rattle.fd_device.specs.declared.changes.Change.TheVariants as Changes
