@@ -18,7 +18,7 @@ pub(crate) fn holds<D: Disk>(disk: &mut D, file: FileId, bytes: &[u8]) -> bool {
         return false;
     }
     let front = &mut piece[..bytes.len()];
-    disk.read_at(file, 0, front).is_ok() && front == bytes
+    disk.read_at(file, 0, front).is_ok() && &*front == bytes
 }
 
 /// Writes at a place within the file or at its end.

@@ -21,8 +21,8 @@ fn a_folder_is_made_at_the_first_write_and_read_again(rt: HostRuntime) -> Result
     assert!(rt; write_synced(&mut disk, LOG, 0, b"abcd").is_ok());
     assert!(rt; put(&mut disk, SEAL, 0, b"x").is_ok());
     assert!(rt; shorten(&mut disk, LOG, 3).is_ok() && disk.sync(LOG).is_ok());
-    assert!(rt; fs::read(&rt, "/tmp/frostd-folder-disk-files/log-0")?.as_slice() == b"abc");
-    assert!(rt; fs::read(&rt, "/tmp/frostd-folder-disk-files/seal-12")?.as_slice() == b"x");
+    assert!(rt; fs::read(&rt, "/tmp/frostd-folder-disk-files/log-0")?.as_slice() == b"abc".as_slice());
+    assert!(rt; fs::read(&rt, "/tmp/frostd-folder-disk-files/seal-12")?.as_slice() == b"x".as_slice());
     let mut again = FolderDisk::new(&rt, Text::of(rt.alloc(), folder)?);
     assert!(rt; holds(&mut again, LOG, b"abc") && disk.faults() == 0);
     clear(&rt, folder);
@@ -43,7 +43,7 @@ fn a_link_is_not_followed(rt: HostRuntime) -> Result<(), Fail> {
     assert!(rt; disk.length(LOG) == Err(DiskFault));
     assert!(rt; disk.write_at(LOG, 0, b"bad") == Err(DiskFault));
     assert!(rt; disk.faults() == 2);
-    assert!(rt; fs::read(&rt, outside)?.as_slice() == b"kept");
+    assert!(rt; fs::read(&rt, outside)?.as_slice() == b"kept".as_slice());
     clear(&rt, folder);
     fs::remove_file(&rt, outside)?;
     Ok(())
