@@ -13,8 +13,8 @@ use std::rt::Files;
 ///
 /// Each error of the file system is a fault, and so is a file that is a link or no regular file, a
 /// folder that can't be opened or synced, and want of memory for a path. No contract says what a
-/// file holds: that the file system keeps what it was told to sync is trusted. Nobody else may write
-/// the files meanwhile.
+/// file holds: that the file system keeps what it was told to sync is trusted. Nobody else may
+/// write the files meanwhile.
 #[derive(Drop)]
 pub struct FolderDisk<R: Files> {
     folder: Folder<R>,

@@ -10,9 +10,9 @@ use fd_lists::NoMemory;
 use std::alloc::Global;
 use std::marker::Model;
 
-/// A disk in memory of which a crash leaves any bytes of what is not synced. Of its calls those fail
-/// that are listed by their numbers, from 1, and those that find no memory; a call that fails does
-/// nothing. `length`, `read_at`, `write_at`, `cut` and `sync` are numbered.
+/// A disk in memory of which a crash leaves any bytes of what is not synced. Of its calls those
+/// fail that are listed by their numbers, from 1, and those that find no memory; a call that fails
+/// does nothing. `length`, `read_at`, `write_at`, `cut` and `sync` are numbered.
 ///
 /// It keeps all that is written, also what is written over, and copies a file at each change.
 #[derive(Drop)]

@@ -140,7 +140,8 @@ impl MemFile {
         ensures err { OnErr result (self.new.bytes ≡ self.old.bytes) }
         ensures base { base_of self.new ≡ base_of self.old }
         ensures lost { lost_of self.new ≡ lost_of self.old }
-        ensures torn { OnOk result (Torn at (length piece.now) (torn_of self.old) (torn_of self.new)) }
+        ensures torn { OnOk result
+            (Torn at (length piece.now) (torn_of self.old) (torn_of self.new)) }
         ensures torn_err { OnErr result (torn_of self.new ≡ torn_of self.old) }
     {
         let torn = torn_write(alloc, self.torn(), at, piece, tear)?;

@@ -118,7 +118,8 @@ impl Model for PlainDisk {
 
     ghost view = { λ d. record { changes = d.changes.items; starved = d.starved } };
 
-    ghost invariant = { λ d. lookup (λ held. held) d.slots.items ≡ replay d.changes.items no_files };
+    ghost invariant = { λ d.
+        lookup (λ held. held) d.slots.items ≡ replay d.changes.items no_files };
 }
 
 impl PlainDisk {

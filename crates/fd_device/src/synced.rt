@@ -26,7 +26,8 @@ pub fn write_synced<D: Disk>(
     ensures crash { D.honest disk.old → Follows (Steps file (Torn at (length piece.now)))
         (D.may_leave disk.old) (D.may_leave disk.new) }
 
-    // A crash at any moment leaves what it might have left before, but for a torn write of this file.
+    // A crash at any moment leaves what it might have left before, but for a torn write of this
+    // file.
     ensures any_moment { D.honest disk.old → LeavesOnly D.moment D.left_since disk.old disk.new
         (Reaches (Steps file (Torn at (length piece.now))) (D.may_leave disk.old)) }
 

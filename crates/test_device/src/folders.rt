@@ -21,8 +21,12 @@ fn a_folder_is_made_at_the_first_write_and_read_again(rt: HostRuntime) -> Result
     assert!(rt; write_synced(&mut disk, LOG, 0, b"abcd").is_ok());
     assert!(rt; put(&mut disk, SEAL, 0, b"x").is_ok());
     assert!(rt; shorten(&mut disk, LOG, 3).is_ok() && disk.sync(LOG).is_ok());
-    assert!(rt; fs::read(&rt, "/tmp/frostd-folder-disk-files/log-0")?.as_slice() == b"abc".as_slice());
-    assert!(rt; fs::read(&rt, "/tmp/frostd-folder-disk-files/seal-12")?.as_slice() == b"x".as_slice());
+    assert!(rt;
+        fs::read(&rt, "/tmp/frostd-folder-disk-files/log-0")?.as_slice() == b"abc".as_slice()
+    );
+    assert!(rt;
+        fs::read(&rt, "/tmp/frostd-folder-disk-files/seal-12")?.as_slice() == b"x".as_slice()
+    );
     let mut again = FolderDisk::new(&rt, Text::of(rt.alloc(), folder)?);
     assert!(rt; holds(&mut again, LOG, b"abc") && disk.faults() == 0);
     clear(&rt, folder);
