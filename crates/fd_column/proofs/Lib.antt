@@ -11,3 +11,4 @@ pub mod RowLabels
 pub mod StackLaws
 pub mod Steps
 pub mod TableLaws
+pub mod TextLaws

@@ -1,5 +1,6 @@
 -- The frames of a stack are read back from its bytes.
 use Rattle.std.proofs.Common.{◌≡◌, ℕ, zero, suc, ◌+◌, ◌-◌, ◌<◌, ◌≤◌, ◌^◌, Bool, true, false, cond, nat_lt, List, [], ◌∷◌, ◌++◌, length, take, drop, min, length-drop, refl, sym, ◌∙◌, ap, arith, length-append}
+use Rattle.std.specs.Prelude.{All, IsUtf8}
 use Rattle.std.proofs.lemmas.Grind.{common_steps}
 use Rattle.std.proofs.lemmas.Nat.{from_le_bytes-to_le_bytes_4}
 use Rattle.std.proofs.lemmas.List.Elements.{All-head, All-tail}
@@ -90,3 +91,8 @@ no_frame bytes h = by (length bytes) refl
     by (suc n) is =
         let low : nat_lt (length bytes) 4 ≡ true = grind arith in
         ap (λ b. cond b [] (take (first_length bytes) (drop 4 bytes) ∷ frames_in n (drop (first_length bytes) (drop 4 bytes)))) low
+
+-- a frame is a text where all are
+pub middle_text : (before behind : List (List ℕ)) (frame : List ℕ) → All IsUtf8 (before ++ frame ∷ behind) → IsUtf8 frame
+middle_text [] behind frame h = All-head IsUtf8 frame behind h
+middle_text (first ∷ before) behind frame h = middle_text before behind frame (All-tail IsUtf8 first (before ++ frame ∷ behind) h)

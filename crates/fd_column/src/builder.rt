@@ -2,6 +2,7 @@ ghost use Rattle.std.specs.Prelude.{◌≡◌, ◌<◌, ◌^◌, [], ◌∷◌, 
 ghost use Rattle.fd_kinds.specs.declared.row.Numbered.{Numbered};
 ghost use Rattle.fd_kinds.specs.Parts.{with_number};
 ghost use Rattle.fd_column.specs.RowNumbers.{numbered_cmp};
+ghost use Rattle.fd_column.specs.Stacks.{AreShort};
 
 use crate::part::ColumnPart;
 use crate::table::Table;
@@ -42,9 +43,10 @@ impl PartBuilder {
         }
     }
 
-    /// The rows and one more, with its number. A frame of 2^32 bytes or more wants memory.
+    /// The rows and one more, with its number.
     pub fn with_numbered(self, number: u64, row: &Row) -> Result<PartBuilder, NoMemory>
-        requires { number < 2 ^ 63 }
+        requires number { number < 2 ^ 63 }
+        requires short { AreShort row.now.stack }
         ensures { IfOk result (λ builder. builder ≡ self ++ with_number number (row.now ∷ [])) }
     {
         let PartBuilder { mut table } = self;
@@ -53,9 +55,10 @@ impl PartBuilder {
         Ok(PartBuilder { table })
     }
 
-    /// The rows and one more. A frame of 2^32 bytes or more wants memory.
+    /// The rows and one more.
     pub fn with_row(self, row: &Numbered) -> Result<PartBuilder, NoMemory>
-        requires { row.now.number < 2 ^ 63 }
+        requires number { row.now.number < 2 ^ 63 }
+        requires short { AreShort row.now.row.stack }
         ensures { IfOk result (λ builder. builder ≡ self ++ row.now ∷ []) }
     {
         self.with_numbered(row.number, &row.row)

@@ -1,4 +1,5 @@
 ghost use Rattle.std.specs.Prelude.{◌≡◌, ◌<◌, ◌≤◌, ℕ, MatchOption, IfOk, All, Decides, length, map};
+ghost use Rattle.std.specs.Prelude.{IfSome, IsUtf8};
 ghost use Rattle.std.specs.Prelude.{insert, IsTrue, [], ◌∷◌, ◌++◌};
 ghost use Rattle.std.specs.Option.{option_copied};
 ghost use Rattle.std.specs.List.{filter_map};
@@ -11,7 +12,7 @@ ghost use Rattle.fd_column.specs.LabelColumns.{pairs_at, labels_from};
 use crate::stacks::text_of;
 use crate::table::LabelColumn;
 use fd_dictionary::{Dictionary, DictionaryBuilder};
-use fd_kinds::{Items, Labels, NoMemory, Pair, Share, Text};
+use fd_kinds::{Items, Labels, NoMemory, Pair, Share, Shared, Text};
 use std::alloc::Global;
 use std::cmp::Ordering;
 
@@ -131,6 +132,7 @@ fn with_pair(
     column: &LabelColumn<Dictionary>,
     at: usize,
 ) -> Result<Items<Pair>, NoMemory>
+    requires { IfSome (cell_in column.now.cells at) IsUtf8 }
     ensures { IfOk result (λ more. more ≡ pairs ++ filter_map (pair_at at) (column.now ∷ [])) }
 {
     let mut more = pairs;
@@ -149,14 +151,17 @@ pub fn labels_at(
     columns: &Items<LabelColumn<Dictionary>>,
     at: usize,
 ) -> Result<Labels, NoMemory>
-    requires { IsTrue (are_labels (pairs_at columns.now at)) }
+    requires labels { IsTrue (are_labels (pairs_at columns.now at)) }
+    requires texts { All (λ c. IfSome (cell_in c.cells at) IsUtf8) columns.now }
     ensures { IfOk result (λ labels. labels ≡ labels_from (pairs_at columns.now at)) }
 {
     let mut pairs = Items::new(alloc);
     for column in columns.as_slice() {
         pairs = with_pair(pairs, column, at)?;
     }
-    Ok(Labels { pairs })
+    Ok(Labels {
+        pairs: Shared::of(pairs)?,
+    })
 }
 
 /// Whether each column has the same cell at two places.

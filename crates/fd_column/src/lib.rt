@@ -31,4 +31,4 @@ pub use builder::PartBuilder;
 pub use columns::Columns;
 pub use fd_dictionary::Dictionary;
 pub use part::ColumnPart;
-pub use stacks::{read_stack, text_of};
+pub use stacks::{is_short, read_stack, text_of};

@@ -37,7 +37,7 @@ fn dotted(alloc: Global, prefix: &str, name: &Text) -> Result<Text, NoMemory>
 {
     let mut text = String::from_str(alloc, prefix)?;
     text.push_str(name.as_str())?;
-    Ok(Text::from_string(text))
+    Text::from_string(text)
 }
 
 /// The names and those of the columns of labels, each behind the prefix.

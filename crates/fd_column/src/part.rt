@@ -1,6 +1,7 @@
 ghost use Rattle.std.specs.Prelude.{◌≡◌, ◌<◌, ◌^◌, Some, IfOk, IsSorted, All, length, slice_get};
 ghost use Rattle.fd_kinds.specs.Parts.{with_number, rows_of};
 ghost use Rattle.fd_column.specs.RowNumbers.{numbered_cmp, IsNumber};
+ghost use Rattle.fd_column.specs.Stacks.{AreShort};
 
 use crate::builder::PartBuilder;
 use crate::columns::Columns;
@@ -51,10 +52,11 @@ impl ColumnPart {
         })
     }
 
-    /// The part of exactly these rows. A frame of 2^32 bytes or more wants memory.
+    /// The part of exactly these rows.
     pub fn from_rows(alloc: Global, rows: &NumberedRows) -> Result<ColumnPart, NoMemory>
         requires sorted { IsSorted numbered_cmp rows.now }
         requires numbers { All IsNumber rows.now }
+        requires short { All (λ row. AreShort row.row.stack) rows.now }
         ensures { IfOk result (λ part. part ≡ rows.now) }
     {
         let mut builder = PartBuilder::new(alloc);

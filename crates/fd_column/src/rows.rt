@@ -1,9 +1,12 @@
-ghost use Rattle.std.specs.Prelude.{◌≡◌, ◌<◌, Some, IfOk, IsTrue, length, slice_get, option_map};
+ghost use Rattle.std.specs.Prelude.{◌≡◌, ◌<◌, Some, IfOk, IsTrue, All, IsUtf8, length, slice_get};
+ghost use Rattle.std.specs.Prelude.{option_map, IfSome};
+ghost use Rattle.fd_dictionary.specs.Dictionaries.{cell_in};
 ghost use Rattle.fd_kinds.specs.Labels.{are_labels};
 ghost use Rattle.fd_column.specs.LabelColumns.{pairs_at};
 ghost use Rattle.fd_column.specs.Tables.{rows_of_table, row_at, text_at, number_at, number_in};
 ghost use Rattle.fd_column.specs.Tables.{IsGrowing};
 ghost use Rattle.fd_column.specs.Stacks.{frames_of};
+ghost use Rattle.fd_column.specs.Texts.{HasTexts};
 
 use crate::label_columns::labels_at;
 use crate::stacks::{read_stack, text_of};
@@ -14,6 +17,7 @@ use std::alloc::Global;
 
 /// The text of a cell, which is empty where the cell is absent.
 fn cell_text(alloc: Global, cells: &Dictionary, at: usize) -> Result<Text, NoMemory>
+    requires { IsUtf8 (text_at cells.now at) }
     ensures { IfOk result (λ text. text ≡ text_at cells.now at) }
 {
     match cells.cell(at) {
@@ -22,12 +26,24 @@ fn cell_text(alloc: Global, cells: &Dictionary, at: usize) -> Result<Text, NoMem
     }
 }
 
+/// The stack of the bytes of a stack.
+fn frames_in(alloc: Global, bytes: &[u8]) -> Result<Stack, NoMemory>
+    requires { All IsUtf8 (frames_of bytes.now) }
+    ensures { IfOk result (λ stack. stack ≡ frames_of bytes.now) }
+{
+    match read_stack(alloc, bytes)? {
+        Some(stack) => Ok(stack),
+        None => unreachable!(),
+    }
+}
+
 /// The stack of a cell.
 fn cell_stack(alloc: Global, cells: &Dictionary, at: usize) -> Result<Stack, NoMemory>
+    requires { All IsUtf8 (frames_of (text_at cells.now at)) }
     ensures { IfOk result (λ stack. stack ≡ frames_of (text_at cells.now at)) }
 {
     match cells.cell(at) {
-        Some(bytes) => read_stack(alloc, bytes),
+        Some(bytes) => frames_in(alloc, bytes),
         None => Ok(Stack::new(alloc)),
     }
 }
@@ -56,6 +72,9 @@ fn batch_number(numbers: &Items<u64>, at: usize) -> u64
 fn fields_of(alloc: Global, table: &Table<Dictionary>, at: usize) -> Result<Row, NoMemory>
     requires labels { IsTrue (are_labels (pairs_at table.now.labels at)) }
     requires pprof_labels { IsTrue (are_labels (pairs_at table.now.pprof_labels at)) }
+    requires label_texts { All (λ c. IfSome (cell_in c.cells at) IsUtf8) table.now.labels }
+    requires pprof_label_texts { All (λ c. IfSome (cell_in c.cells at) IsUtf8) table.now.pprof_labels }
+    requires texts { HasTexts (row_at table.now at).row }
     ensures { IfOk result (λ row. row ≡ (row_at table.now at).row) }
 {
     let kinds = &table.kinds;

@@ -59,10 +59,10 @@ fn push_wholes(wholes: &mut Wholes, row: &Row) -> Result<(), NoMemory>
     Ok(())
 }
 
-/// Adds a stack. A frame of 2^32 bytes or more wants memory.
+/// Adds a stack.
 fn push_stack(stacks: &mut DictionaryBuilder, alloc: Global, stack: &Stack) -> Result<(), NoMemory>
-    ensures stack { OnOk result (stacks.new ≡ stacks.old ++ Some (stack_bytes stack.now) ∷ []) }
-    ensures short { OnOk result (AreShort stack.now) }
+    requires { AreShort stack.now }
+    ensures { OnOk result (stacks.new ≡ stacks.old ++ Some (stack_bytes stack.now) ∷ []) }
 {
     let bytes = spelled(alloc, stack)?;
     stacks.push_text(bytes.as_slice())
@@ -83,16 +83,15 @@ fn push_labels(
     Ok(())
 }
 
-/// Adds a row. A frame of 2^32 bytes or more wants memory. After want of memory the columns are of
-/// no use.
+/// Adds a row. After want of memory the columns are of no use.
 pub fn push_row(
     table: &mut Table<DictionaryBuilder>,
     number: u64,
     row: &Row,
 ) -> Result<(), NoMemory>
-    ensures grows { OnOk result (
+    requires { AreShort row.now.stack }
+    ensures { OnOk result (
         GrowsBy (record { number = number; row = row.now }) table.old table.new) }
-    ensures short { OnOk result (AreShort row.now.stack) }
 {
     let count = table.numbers.len();
     let alloc = table.numbers.allocator();

@@ -3,7 +3,8 @@ ghost use Rattle.std.specs.Option.{option_copied};
 
 use crate::dictionary::Dictionary;
 use crate::interner::Interner;
-use fd_lists::{Items, NoMemory};
+use crate::picks::Picks;
+use fd_lists::NoMemory;
 use std::alloc::Global;
 use std::marker::Model;
 use std::mem;
@@ -13,7 +14,7 @@ use std::mem;
 #[derive(Drop)]
 pub struct DictionaryBuilder {
     entries: Interner,
-    picks: Items<u32>,
+    picks: Picks,
 }
 
 impl Model for DictionaryBuilder {
@@ -33,7 +34,7 @@ impl DictionaryBuilder {
     {
         DictionaryBuilder {
             entries: Interner::new(alloc),
-            picks: Items::new(alloc),
+            picks: Picks::new(alloc),
         }
     }
 
@@ -43,7 +44,7 @@ impl DictionaryBuilder {
     {
         Ok(DictionaryBuilder {
             entries: Interner::new(alloc),
-            picks: Items::from_vec(vec![in alloc; 0u32; count]?),
+            picks: Picks::absent(alloc, count)?,
         })
     }
 

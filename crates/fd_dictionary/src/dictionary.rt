@@ -3,8 +3,8 @@ ghost use Rattle.std.specs.Option.{option_copied};
 ghost use Rattle.fd_dictionary.specs.Dictionaries.{cells_of, cell_in, entries_of, index_in};
 ghost use Rattle.fd_dictionary.specs.Dictionaries.{IsDictionary};
 
+use crate::picks::Picks;
 use crate::pieces::Pieces;
-use fd_lists::Items;
 use std::marker::Model;
 
 /// A column of texts, which contracts see as the list of its cells: its distinct texts, and for
@@ -13,7 +13,7 @@ use std::marker::Model;
 #[derive(Debug, Drop)]
 pub struct Dictionary {
     texts: Pieces,
-    picks: Items<u32>,
+    picks: Picks,
 }
 
 impl Model for Dictionary {
@@ -27,17 +27,17 @@ impl Model for Dictionary {
 }
 
 /// What stands for a cell, and 0 where there is none.
-fn pick_at(picks: &[u32], at: usize) -> u32
+fn pick_at(picks: &Picks, at: usize) -> u64
     ensures { result ≡ unwrap_or (slice_get picks.now at) 0 }
 {
     match picks.get(at) {
-        Some(pick) => *pick,
+        Some(pick) => pick,
         None => 0,
     }
 }
 
 impl Dictionary {
-    pub(crate) fn of(texts: Pieces, picks: Items<u32>) -> Dictionary
+    pub(crate) fn of(texts: Pieces, picks: Picks) -> Dictionary
         requires { IsDictionary texts picks }
         ensures { result ≡ cells_of texts picks }
     {
@@ -55,7 +55,7 @@ impl Dictionary {
     pub fn cell(&self, at: usize) -> Option<&[u8]>
         ensures { option_copied result ≡ cell_in self.now at }
     {
-        let pick = *self.picks.get(at)?;
+        let pick = self.picks.get(at)?;
         if pick == 0 {
             None
         } else {
@@ -83,7 +83,7 @@ impl Dictionary {
     pub fn index(&self, at: usize) -> Option<usize>
         ensures { result ≡ index_in self.now at }
     {
-        let pick = *self.picks.get(at)?;
+        let pick = self.picks.get(at)?;
         if pick == 0 {
             None
         } else {
@@ -96,6 +96,6 @@ impl Dictionary {
     pub fn is_same(&self, a: usize, b: usize) -> bool
         ensures { Decides result (cell_in self.now a ≡ cell_in self.now b) }
     {
-        pick_at(self.picks.as_slice(), a) == pick_at(self.picks.as_slice(), b)
+        pick_at(&self.picks, a) == pick_at(&self.picks, b)
     }
 }

@@ -7,15 +7,12 @@ use std::alloc::Global;
 use std::collections::BTreeMap;
 use std::marker::Model;
 
-/// So many texts have numbers of 32 bits, from 1.
-const MOST_TEXTS: usize = 0xffff_ffff;
-
 /// Distinct texts in the order in which they came, and for each what stands for it in a column.
 /// Never add a text that is there: ask for its `pick` first.
 #[derive(Drop)]
 pub struct Interner {
     texts: Pieces,
-    picks: BTreeMap<Vec<u8>, u32>,
+    picks: BTreeMap<Vec<u8>, u64>,
 }
 
 impl Model for Interner {
@@ -41,24 +38,20 @@ impl Interner {
     }
 
     /// What stands for the text, none where it is no entry.
-    pub fn pick(&self, text: &[u8]) -> Option<u32>
+    pub fn pick(&self, text: &[u8]) -> Option<u64>
         ensures { result ≡ pick_in self.now text.now }
     {
         self.picks.get(text).copied()
     }
 
-    /// The entries and a text that is none of them, with what stands for it. More than 2^32 - 1
-    /// entries want memory.
-    pub fn with(self, text: &[u8]) -> Result<(Interner, u32), NoMemory>
+    /// The entries and a text that is none of them, with what stands for it.
+    pub fn with(self, text: &[u8]) -> Result<(Interner, u64), NoMemory>
         requires { pick_in self text.now ≡ None }
         ensures entries { IfOk result (λ r. r.0 ≡ self ++ text.now ∷ []) }
         ensures pick { IfOk result (λ r. r.1 ≡ length self + 1) }
     {
         let Interner { texts, mut picks } = self;
-        if texts.len() >= MOST_TEXTS {
-            return Err(NoMemory);
-        }
-        let pick = texts.len() as u32 + 1;
+        let pick = texts.len() as u64 + 1;
         let texts = texts.with(text)?;
         let key = Vec::from_slice(texts.allocator(), text)?;
         picks.insert(key, pick)?;

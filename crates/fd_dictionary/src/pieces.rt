@@ -1,4 +1,4 @@
-ghost use Rattle.std.specs.Prelude.{◌≡◌, ◌<◌, [], ◌∷◌, ◌++◌, length, slice_get, IfOk};
+ghost use Rattle.std.specs.Prelude.{◌≡◌, ◌<◌, ◌^◌, [], ◌∷◌, ◌++◌, length, slice_get, IfOk};
 ghost use Rattle.std.specs.Option.{option_copied};
 ghost use Rattle.fd_dictionary.specs.Pieces.{start_of};
 
@@ -51,9 +51,10 @@ impl Pieces {
     #[tactic(auto, using(crate::proofs::PieceLaws::length_pieces))]
     /// How many pieces there are.
     pub fn len(&self) -> usize
-        ensures { result ≡ length self.now }
+        ensures count { result ≡ length self.now }
+        ensures small { result < 2 ^ 63 }
     {
-        self.ends.len()
+        self.ends.as_slice().len()
     }
 
     /// The piece at the place `at`, from 0.

@@ -1,15 +1,18 @@
 ghost use Rattle.std.specs.Prelude.{◌≡◌, ◌+◌, ◌-◌, ◌<◌, ◌≤◌, length, IfOk, OnOk, slice_range};
 ghost use Rattle.fd_column.specs.Cells.{columns_of};
 ghost use Rattle.fd_pages.specs.Pages.{max_rows};
+ghost use Rattle.fd_footer.specs.declared.footer.Pages.TheVariants.{Plain};
 ghost use Rattle.fd_table_file.specs.Columns.{column_count, column_at};
-ghost use Rattle.fd_table_file.specs.Chunks.{AddsPageOf, AddsChunkOf};
-ghost use Rattle.fd_table_file.specs.Files.{magic, chunk_at, IsSmall, HasChunks};
+ghost use Rattle.fd_table_file.specs.Chunks.{AddsPageOf, AddsPagesOf};
+ghost use Rattle.fd_table_file.specs.Files.{magic, plain_chunk_at, IsSmall, HasChunks};
 
 use fd_column::{ColumnPart, Columns};
 use fd_footer::{Chunk, Chunks};
 use fd_kinds::{Bytes, Items, NoMemory};
 use fd_pages::{Cells, MAX_ROWS, levels_are_short, write_page};
-use fd_table_file::{cells_have_kinds, cells_of, columns_have_places, is_required, kind_of};
+use fd_table_file::{
+    cells_have_kinds, cells_of, chunks_are_placed, columns_have_places, is_required, kind_of,
+};
 
 /// Adds the page of the `count` rows from the place `from` on in a column.
 fn add_page(
@@ -40,12 +43,13 @@ fn add_page(
     write_page(&cells, 0, count, out)
 }
 
-/// Adds the chunk of a column: its pages, each of 1,000 rows, and the last of what remains.
+/// Adds the data pages of a column with its values: each of 1,000 rows, and the last of what
+/// remains.
 #[tactic(auto, using(crate::proofs::ChunkPages::continues_none, crate::proofs::ChunkPages::continues_more, crate::proofs::ChunkPages::continues_all, crate::proofs::ChunkPages::cells_count))]
-fn add_chunk(table: &ColumnPart, column: usize, out: &mut Bytes) -> Result<(), NoMemory>
+fn add_pages(table: &ColumnPart, column: usize, out: &mut Bytes) -> Result<(), NoMemory>
     requires column { column < column_count table.now }
     requires small { IsSmall table.now }
-    ensures { OnOk result (AddsChunkOf table.now (column_at table.now column) out.old out.new) }
+    ensures { OnOk result (AddsPagesOf table.now (column_at table.now column) out.old out.new) }
 {
     let count = table.len();
     let mut from = 0;
@@ -57,18 +61,18 @@ fn add_chunk(table: &ColumnPart, column: usize, out: &mut Bytes) -> Result<(), N
     Ok(())
 }
 
-/// Adds the chunk of a column, and tells where it stands.
-#[tactic(auto, using(crate::proofs::FileLaws::chunk_longer))]
+/// Adds the chunk of a column, which has no dictionary, and tells where it stands.
+#[tactic(auto, using(crate::proofs::FileLaws::pages_longer))]
 fn add_placed(table: &ColumnPart, column: usize, out: &mut Bytes) -> Result<Chunk, NoMemory>
     requires column { column < column_count table.now }
     requires small { IsSmall table.now }
     ensures added { OnOk result
-        (AddsChunkOf table.now (column_at table.now column) out.old out.new) }
+        (AddsPagesOf table.now (column_at table.now column) out.old out.new) }
     ensures placed { IfOk result
-        (λ chunk. chunk ≡ chunk_at (length out.old) (length out.new - length out.old)) }
+        (λ chunk. chunk ≡ plain_chunk_at (length out.old) (length out.new - length out.old)) }
 {
     let place = out.len();
-    add_chunk(table, column, out)?;
+    add_pages(table, column, out)?;
     let size = out.len() - place;
     Ok(Chunk {
         place: place as u64,
@@ -77,14 +81,16 @@ fn add_placed(table: &ColumnPart, column: usize, out: &mut Bytes) -> Result<Chun
     })
 }
 
-/// Adds the chunks of all columns, and tells where they stand.
+/// Adds the chunks of all columns with plain pages, and tells where they stand.
 #[tactic(auto, using(crate::proofs::FileLaws::chunks_none, crate::proofs::FileLaws::chunks_more, crate::proofs::FileLaws::chunks_all), unfolding(fd_table_file::specs::Columns::column_count))]
 pub(crate) fn add_chunks(table: &ColumnPart, out: &mut Bytes) -> Result<Chunks, NoMemory>
     requires magic { out.old ≡ magic }
     requires small { IsSmall table.now }
-    ensures { IfOk result (λ places. HasChunks table.now (columns_of table.now) out.new places) }
+    ensures { IfOk result
+        (λ places. HasChunks Plain table.now (columns_of table.now) out.new places) }
 {
     columns_have_places();
+    chunks_are_placed();
     table.utf8();
     table.short();
     let mut places = Items::new(out.allocator());

@@ -7,7 +7,7 @@ ghost use Rattle.fd_footer.specs.Footers.{footer_bytes, IsWritable};
 
 use crate::chunks::add_chunks;
 use fd_column::{ColumnPart, Columns};
-use fd_footer::{Footer, write_footer};
+use fd_footer::{Footer, Pages, write_footer};
 use fd_kinds::{Bytes, NoMemory};
 use fd_table_file::{MAGIC, chunks_are_placed, footer_of};
 use std::alloc::Global;
@@ -51,7 +51,7 @@ pub fn write_file(table: &ColumnPart, lo: u64, hi: u64) -> Result<Bytes, NoMemor
     let mut out = Bytes::from_slice(alloc, MAGIC)?;
     let places = add_chunks(table, &mut out)?;
     are_few(out.as_slice());
-    let footer = footer_of(alloc, table, lo, hi, places)?;
+    let footer = footer_of(alloc, Pages::Plain, table, lo, hi, places)?;
     add_footer(alloc, &footer, &mut out)?;
     Ok(out)
 }

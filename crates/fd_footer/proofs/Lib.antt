@@ -1,3 +1,4 @@
+pub mod ColumnCounts
 pub mod Digits
 pub mod EntryCount
 pub mod Extent

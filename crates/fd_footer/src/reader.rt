@@ -1,4 +1,4 @@
-ghost use Rattle.std.specs.Prelude.{◌≡◌, ◌≢◌, true, false, Ok, Err, Some, None, Option, IfOk, MatchOption};
+ghost use Rattle.std.specs.Prelude.{◌≡◌, ◌≢◌, ◌*◌, ◌≤◌, length, true, false, Ok, Err, Some, None, Option, IfOk, MatchOption};
 ghost use Rattle.fd_thrift.specs.Values.{Value};
 ghost use Rattle.fd_thrift.specs.View.{view};
 ghost use Rattle.fd_thrift.specs.Format.{Spells};
@@ -91,6 +91,8 @@ pub fn read_footer(alloc: Global, bytes: &[u8]) -> Result<FooterTable, FooterFau
         × (table_of_value v ≡ Some table)) }
     // The columns are those of this project's files.
     ensures own { IfOk result (λ table. are_own table.columns ≡ true) }
+    // Each column takes two bytes of the footer at least.
+    ensures few { IfOk result (λ table. 2 * length table.columns ≤ length bytes.now) }
     // The bytes spell no footer.
     ensures footer { result ≡ Err FooterFault.Footer → (v : Value) → Spells bytes.now v
         → has_footer_shape v ≡ false }

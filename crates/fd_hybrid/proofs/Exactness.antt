@@ -7,7 +7,7 @@ use Rattle.fd_hybrid.specs.declared.fault.HybridFault.TheVariants.{Cut, BadRun, 
 use Rattle.fd_hybrid.specs.declared.runs.Before.TheVariants.{Nothing}
 use Rattle.fd_hybrid.specs.Format.{Fit}
 use Rattle.fd_hybrid.specs.Refusals.{Spells, IsCut, IsOverWidth, IsBad, Gives}
-use Rattle.fd_hybrid.specs.Unpacker.{runs_at, ReadsAll}
+use Rattle.fd_hybrid.specs.Unpacker.{runs_at, DecodesAllOrRunsOut}
 use Rattle.fd_hybrid.proofs.DigitNumbers.{Digits}
 use Rattle.fd_hybrid.proofs.GroupLaws.{IsBytes}
 use Rattle.fd_hybrid.proofs.GroupReads.{not_ok, was_ok}
@@ -45,7 +45,7 @@ over_of : (w count : ℕ) (bytes : List ℕ) → 0 < w → count < 2 ^ 64 → Is
 over_of w count bytes wide small (values, are, first, later, runs, front, run, more, spelled, over, e) =
     only_over (length bytes) w count Nothing first later values bytes front run more wide small (fit_digits w values are.1) (runs, tt) are.0 spelled over e (omega arith)
 
-gives_ok : (r : Result (List ℕ) HybridFault) (read : Result (List ℕ × List ℕ) HybridFault) (values : List ℕ) → ReadsAll r read → read ≡ Ok (values, []) → Gives r (Ok values)
+gives_ok : (r : Result (List ℕ) HybridFault) (read : Result (List ℕ × List ℕ) HybridFault) (values : List ℕ) → DecodesAllOrRunsOut r read → read ≡ Ok (values, []) → Gives r (Ok values)
 gives_ok (Ok vs) read values h e =
     let same : (vs, []) ≡ (values, []) = ok_is (vs, []) (values, []) (sym h ∙ e) in
     ap (λ (p : List ℕ × List ℕ). let r : Result (List ℕ) HybridFault = Ok p.0 in r) same
@@ -54,7 +54,7 @@ gives_ok (Err BadRun) read values h e = absurd (not_ok BadRun (values, []) (sym 
 gives_ok (Err OverWidth) read values h e = absurd (not_ok OverWidth (values, []) (sym h ∙ e))
 gives_ok (Err NoMemory) read values h e = tt
 
-gives_err : (r : Result (List ℕ) HybridFault) (read : Result (List ℕ × List ℕ) HybridFault) (fault : HybridFault) → ReadsAll r read → read ≡ Err fault → Gives r (Err fault)
+gives_err : (r : Result (List ℕ) HybridFault) (read : Result (List ℕ × List ℕ) HybridFault) (fault : HybridFault) → DecodesAllOrRunsOut r read → read ≡ Err fault → Gives r (Err fault)
 gives_err (Ok vs) read fault h e = absurd (was_ok fault (vs, []) (sym h ∙ e))
 gives_err (Err Cut) read fault h e = ap (λ (x : HybridFault). Err x) (err_is Cut fault (sym h ∙ e))
 gives_err (Err BadRun) read fault h e = ap (λ (x : HybridFault). Err x) (err_is BadRun fault (sym h ∙ e))
@@ -62,18 +62,18 @@ gives_err (Err OverWidth) read fault h e = ap (λ (x : HybridFault). Err x) (err
 gives_err (Err NoMemory) read fault h e = tt
 
 -- a fault other than want of memory is what was read
-told : (r : Result (List ℕ) HybridFault) (read : Result (List ℕ × List ℕ) HybridFault) (fault : HybridFault) → (fault ≡ NoMemory → ⊥) → ReadsAll r read → IsErrOf r fault → read ≡ Err fault
+told : (r : Result (List ℕ) HybridFault) (read : Result (List ℕ × List ℕ) HybridFault) (fault : HybridFault) → (fault ≡ NoMemory → ⊥) → DecodesAllOrRunsOut r read → IsErrOf r fault → read ≡ Err fault
 told (Ok vs) read fault known h e = absurd (was_ok fault vs e)
 told (Err Cut) read fault known h e = h ∙ ap (λ (x : HybridFault). Err x) (err_is Cut fault e)
 told (Err BadRun) read fault known h e = h ∙ ap (λ (x : HybridFault). Err x) (err_is BadRun fault e)
 told (Err OverWidth) read fault known h e = h ∙ ap (λ (x : HybridFault). Err x) (err_is OverWidth fault e)
 told (Err NoMemory) read fault known h e = absurd (known (sym (err_is NoMemory fault e)))
 
-pub found_exact : (w count : ℕ) (bytes : List ℕ) (r : Result (List ℕ) HybridFault) → 0 < w → count < 2 ^ 64 → IsBytes bytes → ReadsAll r (whole w count bytes) → IfOk r (Spells w count bytes)
+pub found_exact : (w count : ℕ) (bytes : List ℕ) (r : Result (List ℕ) HybridFault) → 0 < w → count < 2 ^ 64 → IsBytes bytes → DecodesAllOrRunsOut r (whole w count bytes) → IfOk r (Spells w count bytes)
 found_exact w count bytes (Ok values) wide small fit h = spells_of w count bytes values (found (length bytes) w count Nothing bytes (values, []) wide small fit h)
 found_exact w count bytes (Err e) wide small fit h = tt
 
-pub only_exact : (w count : ℕ) (bytes : List ℕ) (r : Result (List ℕ) HybridFault) → 0 < w → count < 2 ^ 64 → ReadsAll r (whole w count bytes)
+pub only_exact : (w count : ℕ) (bytes : List ℕ) (r : Result (List ℕ) HybridFault) → 0 < w → count < 2 ^ 64 → DecodesAllOrRunsOut r (whole w count bytes)
     → (values : List ℕ) → Spells w count bytes values → Gives r (Ok values)
 only_exact w count bytes r wide small h values s = gives_ok r (whole w count bytes) values h (read_of w count bytes values wide small s)
 
@@ -82,10 +82,10 @@ cut_found w count bytes wide small fit h =
     let c = found_cut (length bytes) w count Nothing bytes wide small fit tt h in
     (c.values, c.more, c.some, spells_of w count (bytes ++ c.more) c.values c.whole)
 
-pub cut_exact : (w count : ℕ) (bytes : List ℕ) (r : Result (List ℕ) HybridFault) → 0 < w → count < 2 ^ 64 → IsBytes bytes → ReadsAll r (whole w count bytes) → IsErrOf r Cut → IsCut w count bytes
+pub cut_exact : (w count : ℕ) (bytes : List ℕ) (r : Result (List ℕ) HybridFault) → 0 < w → count < 2 ^ 64 → IsBytes bytes → DecodesAllOrRunsOut r (whole w count bytes) → IsErrOf r Cut → IsCut w count bytes
 cut_exact w count bytes r wide small fit h e = cut_found w count bytes wide small fit (told r (whole w count bytes) Cut (λ k. cc) h e)
 
-pub cut_only : (w count : ℕ) (bytes : List ℕ) (r : Result (List ℕ) HybridFault) → 0 < w → count < 2 ^ 64 → ReadsAll r (whole w count bytes) → IsCut w count bytes → Gives r (Err Cut)
+pub cut_only : (w count : ℕ) (bytes : List ℕ) (r : Result (List ℕ) HybridFault) → 0 < w → count < 2 ^ 64 → DecodesAllOrRunsOut r (whole w count bytes) → IsCut w count bytes → Gives r (Err Cut)
 cut_only w count bytes r wide small h cut = gives_err r (whole w count bytes) Cut h (cut_of w count bytes wide small cut)
 
 over_found : (w count : ℕ) (bytes : List ℕ) → 0 < w → count < 2 ^ 64 → IsBytes bytes → whole w count bytes ≡ Err OverWidth → IsOverWidth w count bytes
@@ -93,13 +93,13 @@ over_found w count bytes wide small fit h =
     let o = found_over (length bytes) w count Nothing bytes wide small fit tt h in
     (o.values, (o.count, digits_fit w o.values o.fit), o.first, o.later, o.goes.0, o.front, o.run, o.more, o.spelled, o.wide, o.are)
 
-pub over_exact : (w count : ℕ) (bytes : List ℕ) (r : Result (List ℕ) HybridFault) → 0 < w → count < 2 ^ 64 → IsBytes bytes → ReadsAll r (whole w count bytes) → IsErrOf r OverWidth → IsOverWidth w count bytes
+pub over_exact : (w count : ℕ) (bytes : List ℕ) (r : Result (List ℕ) HybridFault) → 0 < w → count < 2 ^ 64 → IsBytes bytes → DecodesAllOrRunsOut r (whole w count bytes) → IsErrOf r OverWidth → IsOverWidth w count bytes
 over_exact w count bytes r wide small fit h e = over_found w count bytes wide small fit (told r (whole w count bytes) OverWidth (λ k. cc) h e)
 
-pub over_only : (w count : ℕ) (bytes : List ℕ) (r : Result (List ℕ) HybridFault) → 0 < w → count < 2 ^ 64 → ReadsAll r (whole w count bytes) → IsOverWidth w count bytes → Gives r (Err OverWidth)
+pub over_only : (w count : ℕ) (bytes : List ℕ) (r : Result (List ℕ) HybridFault) → 0 < w → count < 2 ^ 64 → DecodesAllOrRunsOut r (whole w count bytes) → IsOverWidth w count bytes → Gives r (Err OverWidth)
 over_only w count bytes r wide small h over = gives_err r (whole w count bytes) OverWidth h (over_of w count bytes wide small over)
 
-pub bad_exact : (w count : ℕ) (bytes : List ℕ) (r : Result (List ℕ) HybridFault) → 0 < w → count < 2 ^ 64 → ReadsAll r (whole w count bytes) → IsErrOf r BadRun → IsBad w count bytes
+pub bad_exact : (w count : ℕ) (bytes : List ℕ) (r : Result (List ℕ) HybridFault) → 0 < w → count < 2 ^ 64 → DecodesAllOrRunsOut r (whole w count bytes) → IsErrOf r BadRun → IsBad w count bytes
 bad_exact w count bytes r wide small h e =
     let bad : whole w count bytes ≡ Err BadRun = told r (whole w count bytes) BadRun (λ k. cc) h e in (
       (λ values s. not_ok BadRun (values, []) (sym bad ∙ read_of w count bytes values wide small s)),
@@ -107,7 +107,7 @@ bad_exact w count bytes r wide small h e =
       (λ over. let d : BadRun ≡ OverWidth = err_is BadRun OverWidth (sym bad ∙ over_of w count bytes wide small over) in cc),
     )
 
-pub bad_only : (w count : ℕ) (bytes : List ℕ) (r : Result (List ℕ) HybridFault) → 0 < w → count < 2 ^ 64 → IsBytes bytes → ReadsAll r (whole w count bytes) → IsBad w count bytes → Gives r (Err BadRun)
+pub bad_only : (w count : ℕ) (bytes : List ℕ) (r : Result (List ℕ) HybridFault) → 0 < w → count < 2 ^ 64 → IsBytes bytes → DecodesAllOrRunsOut r (whole w count bytes) → IsBad w count bytes → Gives r (Err BadRun)
 bad_only w count bytes (Ok values) wide small fit h bad = absurd (bad.0 values (found_exact w count bytes (Ok values) wide small fit h))
 bad_only w count bytes (Err Cut) wide small fit h bad = absurd (bad.1 (cut_found w count bytes wide small fit h))
 bad_only w count bytes (Err BadRun) wide small fit h bad = refl

@@ -3,7 +3,7 @@ use Rattle.std.proofs.Common.{◌≡◌, ℕ, suc, ◌-◌, ◌+◌, ◌≤◌, 
 use Rattle.std.proofs.lemmas.List.{append-nil}
 use Rattle.fd_hybrid.specs.declared.fault.HybridFault.{HybridFault}
 use Rattle.fd_hybrid.specs.declared.fault.HybridFault.TheVariants.{Cut, BadRun, OverWidth, NoMemory}
-use Rattle.fd_hybrid.specs.Unpacker.{◌>>=◌, with_front, Refuses, group_at, groups_at}
+use Rattle.fd_hybrid.specs.Unpacker.{◌>>=◌, with_front, Fails, group_at, groups_at}
 
 -- one thing is read, and then the next
 abbrev pub in_turn : {A B : Type 0} → Result (List ℕ × A) HybridFault → (A → Result (List ℕ × B) HybridFault) → Result (List ℕ × B) HybridFault
@@ -33,7 +33,7 @@ pub err_back : {A : Type 0} (front : List ℕ) (read : Result (List ℕ × A) Hy
 err_back front (Ok x) e h = cc
 err_back front (Err d) e h = h
 
-pub refuses : {A B : Type 0} (e : HybridFault) (read : Result A HybridFault) (first : Result B HybridFault) → (first ≡ Err e → read ≡ Err e) → Refuses e first → Refuses e read
+pub refuses : {A B : Type 0} (e : HybridFault) (read : Result A HybridFault) (first : Result B HybridFault) → (first ≡ Err e → read ≡ Err e) → Fails e first → Fails e read
 refuses Cut read first f h = f h
 refuses BadRun read first f h = f h
 refuses OverWidth read first f h = f h

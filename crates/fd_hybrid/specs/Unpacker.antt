@@ -112,21 +112,21 @@ with_front front (Ok x) = Ok (front ++ x.0, x.1)
 with_front front (Err e) = Err e
 
 -- a call that takes memory refuses so, unless memory ran out
-abbrev pub Refuses : {A : Type 0} → HybridFault → Result A HybridFault → Type 0
-Refuses NoMemory read = Unit {0}
-Refuses e read = read ≡ Err e
+abbrev pub Fails : {A : Type 0} → HybridFault → Result A HybridFault → Type 0
+Fails NoMemory read = Unit {0}
+Fails e read = read ≡ Err e
 
 -- A call that adds the values to a list answers what reading gives, unless memory ran out.
-abbrev pub Reads : {X Y : Type 0} → (X → Y) → List ℕ → List ℕ → Result X HybridFault → Result (List ℕ × Y) HybridFault → Type 0
-Reads view old new (Ok x) read = with_front old read ≡ Ok (new, view x)
-Reads view old new (Err e) read = Refuses e read
+abbrev pub AppendsOrRunsOut : {X Y : Type 0} → (X → Y) → List ℕ → List ℕ → Result X HybridFault → Result (List ℕ × Y) HybridFault → Type 0
+AppendsOrRunsOut view old new (Ok x) read = with_front old read ≡ Ok (new, view x)
+AppendsOrRunsOut view old new (Err e) read = Fails e read
 
 -- what a call that takes no memory answers
-abbrev pub Answers : {X Y : Type 0} → (X → Y) → Result X HybridFault → Result Y HybridFault → Type 0
-Answers view (Ok x) read = read ≡ Ok (view x)
-Answers view (Err e) read = read ≡ Err e
+abbrev pub Decodes : {X Y : Type 0} → (X → Y) → Result X HybridFault → Result Y HybridFault → Type 0
+Decodes view (Ok x) read = read ≡ Ok (view x)
+Decodes view (Err e) read = read ≡ Err e
 
 -- what a call answers that reads all of the bytes
-abbrev pub ReadsAll : Result (List ℕ) HybridFault → Result (List ℕ × List ℕ) HybridFault → Type 0
-ReadsAll (Ok values) read = read ≡ Ok (values, [])
-ReadsAll (Err e) read = Refuses e read
+abbrev pub DecodesAllOrRunsOut : Result (List ℕ) HybridFault → Result (List ℕ × List ℕ) HybridFault → Type 0
+DecodesAllOrRunsOut (Ok values) read = read ≡ Ok (values, [])
+DecodesAllOrRunsOut (Err e) read = Fails e read

@@ -13,7 +13,8 @@ fn byte_of(values: &[u32], bits: Bits, width: u32) -> (u8, Bits)
     requires held { bits.count < 32 }
     requires fit { Fit width values.now }
     ensures byte { result.0 ≡ ahead width values.now bits.at bits.held bits.count % 2 ^ 8 }
-    ensures rest { ahead width values.now result.1.at result.1.held result.1.count ≡ ahead width values.now bits.at bits.held bits.count / 2 ^ 8 }
+    ensures rest { ahead width values.now result.1.at result.1.held result.1.count
+        ≡ ahead width values.now bits.at bits.held bits.count / 2 ^ 8 }
     ensures held { result.1.count < 32 }
 {
     let mut bits = bits;
@@ -55,7 +56,8 @@ pub(crate) fn value_of(bytes: &[u8], bits: Bits, width: u32) -> (u32, Bits)
     requires most { width ≤ 32 }
     requires held { bits.count < 32 }
     ensures value { result.0 ≡ ahead 8 bytes.now bits.at bits.held bits.count % 2 ^ width }
-    ensures rest { ahead 8 bytes.now result.1.at result.1.held result.1.count ≡ ahead 8 bytes.now bits.at bits.held bits.count / 2 ^ width }
+    ensures rest { ahead 8 bytes.now result.1.at result.1.held result.1.count
+        ≡ ahead 8 bytes.now bits.at bits.held bits.count / 2 ^ width }
     ensures held { result.1.count < 32 }
 {
     let mut bits = bits;

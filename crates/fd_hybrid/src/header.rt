@@ -1,6 +1,6 @@
 ghost use Rattle.std.specs.Prelude.{◌≡◌, ◌<◌, ◌↔◌, IsTrue, OnOk};
 ghost use Rattle.fd_hybrid.specs.Format.{AddsVarint};
-ghost use Rattle.fd_hybrid.specs.Unpacker.{capped_at, Answers};
+ghost use Rattle.fd_hybrid.specs.Unpacker.{capped_at, Decodes};
 
 use crate::{Bytes, HybridFault, NoMemory};
 
@@ -17,8 +17,8 @@ pub(crate) fn push_varint(out: &mut Bytes, number: u128) -> Result<(), NoMemory>
     Ok(())
 }
 
-/// Whether a varint is longer than it need be where this is its byte at the place `k`: a last byte of
-/// 0 behind others adds nothing.
+/// Whether a varint is longer than it need be where this is its byte at the place `k`: a last byte
+/// of 0 behind others adds nothing.
 fn is_needless(byte: u8, k: usize) -> bool
     ensures { IsTrue result ↔ ((byte ≡ 0) × (0 < k)) }
 {
@@ -28,7 +28,7 @@ fn is_needless(byte: u8, k: usize) -> bool
 /// The header at the front, and the bytes after it. Where the bytes end inside of it, it is read as
 /// if the byte 1 stood next. A number above 2^128 - 1 is taken for that.
 pub(crate) fn header_of(bytes: &[u8]) -> Result<(u128, &[u8]), HybridFault>
-    ensures { Answers (λ header. (header.0, header.1.now)) result (capped_at bytes.now) }
+    ensures { Decodes (λ header. (header.0, header.1.now)) result (capped_at bytes.now) }
 {
     let mut number = 0u128;
     let mut weight = 1u128;

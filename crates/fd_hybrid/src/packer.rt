@@ -51,7 +51,8 @@ fn push_groups<'a>(
     Ok(rest)
 }
 
-/// Writes the next stretch, so many equal values, as a repeated run, and answers the values behind it.
+/// Writes the next stretch, so many equal values, as a repeated run, and answers the values behind
+/// it.
 fn push_repeated<'a>(
     out: &mut Bytes,
     values: &'a [u32],
@@ -110,12 +111,12 @@ fn push_run<'a>(out: &mut Bytes, values: &'a [u32], width: u8) -> Result<&'a [u3
     }
 }
 
-/// The one spelling of the values in hybrid runs (Apache Parquet, Encodings.md, "Run Length Encoding
-/// / Bit-Packing Hybrid"), `width` bits each, from 1 to 32, with no length before it. Of the
-/// spellings that Parquet allows it is this one, which is our own choice, from left to right: where
-/// eight or more equal values stand next, all of that stretch are one repeated run; otherwise groups
-/// of eight go into one packed run, until no value is left or eight or more equal values stand next.
-/// A last group is filled up with zeros. No values give no bytes.
+/// The one spelling of the values in hybrid runs (Apache Parquet, Encodings.md, "Run Length
+/// Encoding / Bit-Packing Hybrid"), `width` bits each, from 1 to 32, with no length before it. Of
+/// the spellings that Parquet allows it is this one, which is our own choice, from left to right:
+/// where eight or more equal values stand next, all of that stretch are one repeated run; otherwise
+/// groups of eight go into one packed run, until no value is left or eight or more equal values
+/// stand next. A last group is filled up with zeros. No values give no bytes.
 pub fn pack(alloc: Global, values: &[u32], width: u8) -> Result<Bytes, NoMemory>
     requires least { 0 < width }
     requires most { width ≤ 32 }

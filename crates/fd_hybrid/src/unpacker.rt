@@ -1,7 +1,7 @@
 ghost use Rattle.std.specs.Prelude.{◌≡◌, ℕ, List, ◌<◌, ◌≤◌, ◌^◌, ◌++◌, ◌&&◌, ◌==◌, nat_le, length, take, replicate, OnOk, IfOk, IsErrOf};
 ghost use Rattle.std.specs.List.{list_all};
 ghost use Rattle.fd_hybrid.specs.Digits.{number};
-ghost use Rattle.fd_hybrid.specs.Unpacker.{Reads, repeats, repeated_at, group_at, groups_at, fits_in, packed_at, run_at, runs_at, ReadsAll};
+ghost use Rattle.fd_hybrid.specs.Unpacker.{AppendsOrRunsOut, repeats, repeated_at, group_at, groups_at, fits_in, packed_at, run_at, runs_at, DecodesAllOrRunsOut};
 ghost use Rattle.fd_hybrid.specs.Refusals.{Spells, IsCut, IsOverWidth, IsBad, Gives};
 
 use crate::groups::{first_of, group_of};
@@ -53,7 +53,7 @@ fn repeats_value(before: Before, value: u32) -> bool
 }
 
 /// The number of the first `size` bytes, the lowest first.
-fn number_of(bytes: &[u8], size: usize) -> u32
+fn value_in(bytes: &[u8], size: usize) -> u32
     requires { size ≤ 4 }
     ensures { result ≡ number 8 (take size bytes.now) }
 {
@@ -89,11 +89,12 @@ fn repeated_of<'a>(
 ) -> Result<(Before, &'a [u8]), HybridFault>
     requires least { 0 < width }
     requires most { width ≤ 32 }
-    ensures { Reads (λ x. (x.0, x.1.now)) values.old values.new result (repeated_at width left before copies bytes.now) }
+    ensures { AppendsOrRunsOut (λ x. (x.0, x.1.now)) values.old values.new result
+        (repeated_at width left before copies bytes.now) }
 {
     let size = usize::from(width).div_ceil(8);
     let whole = bytes.len() >= size;
-    let value = number_of(bytes, size);
+    let value = value_in(bytes, size);
     if whole && is_too_wide(value, width) {
         return Err(HybridFault::OverWidth);
     }
@@ -127,7 +128,8 @@ fn add_group<'a>(
 ) -> Result<&'a [u8], HybridFault>
     requires least { 0 < width }
     requires most { width ≤ 32 }
-    ensures { Reads (λ rest. rest.now) values.old values.new result (group_at width left bytes.now) }
+    ensures { AppendsOrRunsOut (λ rest. rest.now) values.old values.new result
+        (group_at width left bytes.now) }
 {
     let size = usize::from(width);
     let whole = bytes.len() >= size;
@@ -156,7 +158,8 @@ fn groups_of<'a>(
 ) -> Result<&'a [u8], HybridFault>
     requires least { 0 < width }
     requires most { width ≤ 32 }
-    ensures { Reads (λ rest. rest.now) values.old values.new result (groups_at width groups left bytes.now) }
+    ensures { AppendsOrRunsOut (λ rest. rest.now) values.old values.new result
+        (groups_at width groups left bytes.now) }
 {
     let mut rest = bytes;
     let mut left = left;
@@ -187,7 +190,8 @@ fn packed_of<'a>(
 ) -> Result<(Before, &'a [u8]), HybridFault>
     requires least { 0 < width }
     requires most { width ≤ 32 }
-    ensures { Reads (λ x. (x.0, x.1.now)) values.old values.new result (packed_at width left before groups bytes.now) }
+    ensures { AppendsOrRunsOut (λ x. (x.0, x.1.now)) values.old values.new result
+        (packed_at width left before groups bytes.now) }
 {
     if matches!(before, Before::Packed) || groups == 0 || !fits(groups, left) {
         return Err(HybridFault::BadRun);
@@ -212,7 +216,8 @@ fn run_of<'a>(
     requires least { 0 < width }
     requires most { width ≤ 32 }
     requires some { 0 < length bytes.now }
-    ensures { Reads (λ x. (x.0, x.1.now)) values.old values.new result (run_at width left before bytes.now) }
+    ensures { AppendsOrRunsOut (λ x. (x.0, x.1.now)) values.old values.new result
+        (run_at width left before bytes.now) }
 {
     let (number, rest) = header_of(bytes)?;
     if bytes[0] % 2 == 0 {
@@ -226,7 +231,8 @@ fn run_of<'a>(
 fn all_of(alloc: Global, bytes: &[u8], width: u8, count: usize) -> Result<Values, HybridFault>
     requires least { 0 < width }
     requires most { width ≤ 32 }
-    ensures { ReadsAll result (runs_at (length bytes.now) width count Before.Nothing bytes.now) }
+    ensures { DecodesAllOrRunsOut result
+        (runs_at (length bytes.now) width count Before.Nothing bytes.now) }
 {
     let mut values = Values::new(alloc);
     let mut rest = bytes;
@@ -251,11 +257,13 @@ pub fn unpack(alloc: Global, bytes: &[u8], width: u8, count: usize) -> Result<Va
     // What is read is spelled so.
     ensures found { IfOk result (Spells width count bytes.now) }
     // What is spelled so is read, unless memory runs out.
-    ensures only { (values : List ℕ) → Spells width count bytes.now values → Gives result (Ok values) }
+    ensures only { (values : List ℕ) → Spells width count bytes.now values
+        → Gives result (Ok values) }
     ensures cut { IsErrOf result HybridFault.Cut → IsCut width count bytes.now }
     ensures cut_only { IsCut width count bytes.now → Gives result (Err HybridFault.Cut) }
     ensures over_width { IsErrOf result HybridFault.OverWidth → IsOverWidth width count bytes.now }
-    ensures over_width_only { IsOverWidth width count bytes.now → Gives result (Err HybridFault.OverWidth) }
+    ensures over_width_only { IsOverWidth width count bytes.now
+        → Gives result (Err HybridFault.OverWidth) }
     // All else is a bad run, and nothing else is.
     ensures bad_run { IsErrOf result HybridFault.BadRun → IsBad width count bytes.now }
     ensures bad_run_only { IsBad width count bytes.now → Gives result (Err HybridFault.BadRun) }

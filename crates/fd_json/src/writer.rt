@@ -4,7 +4,7 @@ ghost use Rattle.json.specs.Token.{key as key_token, begin_object, end_object, b
 ghost use Rattle.fd_json.specs.Answers.{list_json, pair_json, labels_json, signed_json, number_json};
 ghost use Rattle.fd_json.specs.Tokens.{Adds, tokens_of};
 
-use fd_kinds::{Items, Labels, NoMemory, Pair, Text};
+use fd_kinds::{Items, Labels, NoMemory, Pair, Shared, Text};
 use itoa::Buffer;
 use json::Writer;
 
@@ -93,16 +93,31 @@ impl WritesJson for Text {
     }
 }
 
+/// Writes an array of the items.
+#[tactic(auto, using(crate::proofs::TokenSteps::list_steps))]
+fn write_list<T: WritesJson>(out: &mut Writer, items: &[T]) -> Result<(), NoMemory>
+    ensures { OnOk result (Adds out.old out.new (tokens_of (list_json T.json items.now))) }
+{
+    begin_array(out)?;
+    for item in items {
+        item.write(out)?;
+    }
+    end_array(out)
+}
+
 impl<T: WritesJson> WritesJson for Items<T> {
     ghost json = { list_json T.json };
 
-    #[tactic(auto, using(crate::proofs::TokenSteps::list_steps))]
     fn write(&self, out: &mut Writer) -> Result<(), NoMemory> {
-        begin_array(out)?;
-        for item in self.as_slice() {
-            item.write(out)?;
-        }
-        end_array(out)
+        write_list(out, self.as_slice())
+    }
+}
+
+impl<T: WritesJson> WritesJson for Shared<T> {
+    ghost json = { list_json T.json };
+
+    fn write(&self, out: &mut Writer) -> Result<(), NoMemory> {
+        write_list(out, self.as_slice())
     }
 }
 

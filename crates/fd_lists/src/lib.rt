@@ -7,6 +7,7 @@ mod items;
 mod memory;
 mod room;
 mod share;
+mod shared;
 mod text;
 
 pub use digits::read_size;
@@ -14,4 +15,5 @@ pub use items::{Bytes, BytesList, Items};
 pub use memory::NoMemory;
 pub use room::RoomyList;
 pub use share::Share;
+pub use shared::Shared;
 pub use text::{Text, Texts};

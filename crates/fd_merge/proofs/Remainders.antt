@@ -2,10 +2,11 @@
 use Rattle.std.proofs.Common.{◌≡◌, ℕ, zero, suc, ◌+◌, ◌<◌, ◌^◌, List, [], ◌∷◌, ◌++◌, length, drop, refl, sym, ◌∙◌, ap, subst, arith}
 use Rattle.std.specs.Prelude.{Some, IsSome, All, slice_get}
 use Rattle.std.proofs.lemmas.Grind.{common_steps}
-use Rattle.std.proofs.lemmas.Option.{same_Some}
-use Rattle.std.proofs.lemmas.List.Elements.{All-head}
+use Rattle.std.proofs.lemmas.Option.{same_Some, slice_get_within, get_or_from_slice_get}
+use Rattle.std.proofs.lemmas.List.Elements.{All-head, All-get_or}
 use Rattle.fd_kinds.specs.declared.row.Numbered.{Numbered}
 use Rattle.fd_column.specs.RowNumbers.{IsNumber}
+use Rattle.fd_column.specs.Stacks.{AreShort}
 use Rattle.fd_merge.specs.Merges.{MovesFirst}
 
 pub first_of_rest : {X : Type 0} (xs : List X) (at : ℕ) → slice_get (drop at xs) 0 ≡ slice_get xs at
@@ -41,3 +42,7 @@ first_moves rows at x done done' rest' there done_is rest_is = record {
 
 pub small_first : (rows : List Numbered) (at : ℕ) (x : Numbered) → slice_get rows at ≡ Some x → All IsNumber (drop at rows) → x.number < 2 ^ 63
 small_first rows at x there h = All-head IsNumber x (drop (at + 1) rows) (subst (All IsNumber) (rest_from rows at x there) h)
+
+pub short_first : (rows : List Numbered) (at : ℕ) (x : Numbered) → slice_get rows at ≡ Some x → All (λ row. AreShort row.row.stack) rows → AreShort x.row.stack
+short_first rows at x there h =
+    subst (λ row. AreShort row.row.stack) (get_or_from_slice_get rows at x x there) (All-get_or (λ row. AreShort row.row.stack) rows at x (slice_get_within rows at x there) h)

@@ -83,6 +83,7 @@ impl<'a> Cursor<'a> {
             at,
             first,
         } = self;
+        part.short();
         let row = first.unwrap();
         let next = next_place(at, count);
         let builder = builder.with_row(&row)?;

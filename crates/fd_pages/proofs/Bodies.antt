@@ -12,8 +12,8 @@ use Rattle.fd_pages.specs.declared.cell.Cell.{Cell}
 use Rattle.fd_pages.specs.declared.fault.PageFault.{PageFault}
 use Rattle.fd_pages.specs.declared.fault.PageFault.TheVariants.{BadPage, NoMemory}
 use Rattle.fd_pages.specs.Columns.{IsOfColumn, Fits, sized, plain_values, level}
-use Rattle.fd_pages.specs.Pages.{header_bytes, IsBody, IsPage, IsPageAt, Gives}
-use Rattle.fd_pages.specs.Reader.{Reads, sized_at, cells_at, ended, AreCells, Begins}
+use Rattle.fd_pages.specs.Pages.{header_bytes, IsBody, IsPage, IsPageAt, BeginsPage, Gives}
+use Rattle.fd_pages.specs.Reader.{DecodesOrRunsOut, sized_at, cells_at, ended, AreCells}
 use Rattle.fd_pages.proofs.Numbers.{IsBytes, ok_is, sized_takes, sized_again}
 use Rattle.fd_pages.proofs.ValueLaws.{levels_fit, parts_within}
 use Rattle.fd_pages.proofs.CellLaws.{cells_take, cells_again, weaker, all_there, none_absent}
@@ -33,7 +33,7 @@ ended_ok (Ok x) cells h =
     let nothing : x.1 ≡ [] = nil_from_length x.1 (eqb-true _ _ g.0) in
     ap (λ (xs : List Cell). Ok (xs, x.1)) g.1 ∙ ap (λ (ys : List ℕ). Ok (cells, ys)) nothing
 
-pub gives : (r : Result (List Cell) PageFault) (read : Result (List Cell) PageFault) (cells : List Cell) → Reads (λ x. x) r read → read ≡ Ok cells → Gives r (Ok cells)
+pub gives : (r : Result (List Cell) PageFault) (read : Result (List Cell) PageFault) (cells : List Cell) → DecodesOrRunsOut (λ x. x) r read → read ≡ Ok cells → Gives r (Ok cells)
 gives (Ok x) read cells h e = sym h ∙ e
 gives (Err NoMemory) read cells h e = tt
 gives (Err BadPage) read cells h e = sym h ∙ e
@@ -62,7 +62,7 @@ required_again kind count bytes cells are e =
     let read : cells_at kind (replicate count 1) bytes ≡ Ok (cells, []) = ap (λ ls. cells_at kind ls bytes) levels ∙ ap (cells_at kind (map level cells)) whole ∙ cells_again kind cells [] (weaker kind cells there) fit in
     rw read refl
 
-pub required_found : (kind : CellKind) (count : ℕ) (bytes : List ℕ) (r : Result (List Cell) PageFault) → IsBytes bytes → Reads (λ x. x) r (ended (cells_at kind (replicate count 1) bytes)) → IfOk r (λ cells. AreCells kind true count cells × IsBody true cells bytes)
+pub required_found : (kind : CellKind) (count : ℕ) (bytes : List ℕ) (r : Result (List Cell) PageFault) → IsBytes bytes → DecodesOrRunsOut (λ x. x) r (ended (cells_at kind (replicate count 1) bytes)) → IfOk r (λ cells. AreCells kind true count cells × IsBody true cells bytes)
 required_found kind count bytes (Ok cells) fits h = required_read kind count bytes cells fits h
 required_found kind count bytes (Err e) fits h = tt
 
@@ -81,7 +81,7 @@ optional_read kind count body runs values levels cells fits sized_is spelled e =
     )
 
 pub optional_found : (kind : CellKind) (count : ℕ) (body runs values levels : List ℕ) (r : Result (List Cell) PageFault) → IsBytes body → sized_at body ≡ Ok (runs, values) → Spells 1 count runs levels
-    → Reads (λ x. x) r (ended (cells_at kind levels values)) → IfOk r (λ cells. AreCells kind false count cells × IsBody false cells body)
+    → DecodesOrRunsOut (λ x. x) r (ended (cells_at kind levels values)) → IfOk r (λ cells. AreCells kind false count cells × IsBody false cells body)
 optional_found kind count body runs values levels (Ok cells) fits sized_is spelled h = optional_read kind count body runs values levels cells fits sized_is spelled h
 optional_found kind count body runs values levels (Err e) fits sized_is spelled h = tt
 
@@ -105,17 +105,17 @@ optional_again kind count cells are =
 
 -- a header, a body and what is behind it
 pub page_begins : (kind : CellKind) (required : Bool) (count size : ℕ) (bytes rest body behind : List ℕ) (cells : List Cell) → 0 < count → count ≤ 1000 → size < 2 ^ 31 → size ≤ length rest
-    → bytes ≡ header_bytes count size ++ rest → body ≡ take size rest → behind ≡ drop size rest → AreCells kind required count cells × IsBody required cells body → Begins kind required count bytes cells behind
+    → bytes ≡ header_bytes count size ++ rest → body ≡ take size rest → behind ≡ drop size rest → AreCells kind required count cells × IsBody required cells body → BeginsPage kind required count bytes cells behind
 page_begins kind required count size bytes rest body behind cells some few small within whole body-is behind-is (are, spelled) =
     let len : length body ≡ size = ap length body-is ∙ length-take-le size rest within in
     let parts : rest ≡ body ++ behind = sym (take-append-drop size rest) ∙ ap (λ x. x ++ drop size rest) (sym body-is) ∙ ap (λ x. body ++ x) (sym behind-is) in
     let page : List ℕ = header_bytes (length cells) (length body) ++ body in
     let same : header_bytes count size ≡ header_bytes (length cells) (length body) = ap (λ k. header_bytes k size) (sym are.counted) ∙ ap (header_bytes (length cells)) (sym len) in
     record {
-      page = page;
+      front = page;
       whole = whole ∙ ap (λ x. x ++ rest) same ∙ ap (λ x. header_bytes (length cells) (length body) ++ x) parts ∙ sym (append_assoc (header_bytes (length cells) (length body)) body behind);
       counted = are.counted;
-      spelled = record { some = omega (arith, are.counted); few = omega (arith, are.counted); column = are.column; fit = are.fit; body = body; spelled = spelled; small = omega arith; whole = refl };
+      page = record { some = omega (arith, are.counted); few = omega (arith, are.counted); column = are.column; fit = are.fit; body = body; spelled = spelled; small = omega arith; whole = refl };
     }
 
 pub record Parts (kind : CellKind) (required : Bool) (count : ℕ) (bytes : List ℕ) (cells : List Cell) (behind : List ℕ) : Type 0 where
@@ -128,9 +128,9 @@ pub record Parts (kind : CellKind) (required : Bool) (count : ℕ) (bytes : List
   pub whole : bytes ≡ header_bytes count (length body) ++ (body ++ behind)
 
 -- a page is a header and a body
-pub page_parts : (kind : CellKind) (required : Bool) (count : ℕ) (bytes : List ℕ) (cells : List Cell) (behind : List ℕ) → Begins kind required count bytes cells behind → Parts kind required count bytes cells behind
+pub page_parts : (kind : CellKind) (required : Bool) (count : ℕ) (bytes : List ℕ) (cells : List Cell) (behind : List ℕ) → BeginsPage kind required count bytes cells behind → Parts kind required count bytes cells behind
 page_parts kind required count bytes cells behind b =
-    let p = b.spelled in
+    let p = b.page in
     record {
       body = p.body;
       are = record { counted = b.counted; column = p.column; fit = p.fit };
@@ -158,28 +158,28 @@ levels_same a b e = ok_is a b e
 -- ---- places
 
 -- the page at a place begins what is there
-pub place_begins : (kind : CellKind) (required : Bool) (count : ℕ) (bytes : List ℕ) (at : ℕ) (cells : List Cell) (end : ℕ) → IsPageAt kind required count bytes at cells end → Begins kind required count (drop at bytes) cells (drop end bytes)
+pub place_begins : (kind : CellKind) (required : Bool) (count : ℕ) (bytes : List ℕ) (at : ℕ) (cells : List Cell) (end : ℕ) → IsPageAt kind required count bytes at cells end → BeginsPage kind required count (drop at bytes) cells (drop end bytes)
 place_begins kind required count bytes at cells end p =
     let e : at + (end - at) ≡ end = omega (arith, p.begin) in
     record {
-      page = slice_range bytes at end;
+      front = slice_range bytes at end;
       whole = sym (take-append-drop (end - at) (drop at bytes)) ∙ ap (λ x. take (end - at) (drop at bytes) ++ x) (drop-drop (end - at) at bytes ∙ ap (λ k. drop k bytes) e);
       counted = p.counted;
-      spelled = p.page;
+      page = p.page;
     }
 
 -- what is in front of the bytes at a place is the page at that place
-pub begins_place : (kind : CellKind) (required : Bool) (count : ℕ) (bytes : List ℕ) (at : ℕ) (cells : List Cell) (rest : List ℕ) → at ≤ length bytes → Begins kind required count (drop at bytes) cells rest
+pub begins_place : (kind : CellKind) (required : Bool) (count : ℕ) (bytes : List ℕ) (at : ℕ) (cells : List Cell) (rest : List ℕ) → at ≤ length bytes → BeginsPage kind required count (drop at bytes) cells rest
     → IsPageAt kind required count bytes at cells (length bytes - length rest)
 begins_place kind required count bytes at cells rest within b =
-    let long : length b.page + length rest ≡ length bytes - at = sym (length-append b.page rest) ∙ sym (ap length b.whole) ∙ length-drop at bytes in
-    let e : (length bytes - length rest) - at ≡ length b.page = omega (arith, long, within) in
-    let page : slice_range bytes at (length bytes - length rest) ≡ b.page = ap (λ k. take k (drop at bytes)) e ∙ ap (take (length b.page)) b.whole ∙ take_at b.page rest (length b.page) refl in
+    let long : length b.front + length rest ≡ length bytes - at = sym (length-append b.front rest) ∙ sym (ap length b.whole) ∙ length-drop at bytes in
+    let e : (length bytes - length rest) - at ≡ length b.front = omega (arith, long, within) in
+    let page : slice_range bytes at (length bytes - length rest) ≡ b.front = ap (λ k. take k (drop at bytes)) e ∙ ap (take (length b.front)) b.whole ∙ take_at b.front rest (length b.front) refl in
     record {
       begin = omega (arith, long, within);
       within = omega arith;
       counted = b.counted;
-      page = subst (IsPage kind required cells) (sym page) b.spelled;
+      page = subst (IsPage kind required cells) (sym page) b.page;
     }
 
 -- the place behind a page, from what is left

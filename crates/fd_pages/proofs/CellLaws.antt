@@ -9,7 +9,7 @@ use Rattle.fd_pages.specs.declared.cell.CellKind.TheVariants.{Whole as WholeKind
 use Rattle.fd_pages.specs.declared.cell.Cell.{Cell}
 use Rattle.fd_pages.specs.declared.cell.Cell.TheVariants.{Absent, Whole, Bytes}
 use Rattle.fd_pages.specs.Columns.{IsOfColumn, Fits, plain, plain_values, level}
-use Rattle.fd_pages.specs.Reader.{◌>>=◌, number_at, sized_at, value_at, cell_at, cells_at}
+use Rattle.fd_pages.specs.Reader.{◌>>=◌, fixed_width_at, sized_at, value_at, cell_at, cells_at}
 use Rattle.fd_pages.proofs.Numbers.{IsBytes, bind_ok, ok_is, Takes, Takes-then, wide64, number_takes, number_again, sized_takes, sized_again}
 
 zero_one : ◌≡◌ {A = ℕ} 0 1 → ⊥
@@ -24,7 +24,7 @@ pub record IsRead (kind : CellKind) (lev : ℕ) (cell : Cell) : Type 0 where
 value_takes : (kind : CellKind) (bytes : List ℕ) (x : Cell × List ℕ) → IsBytes bytes → value_at kind bytes ≡ Ok x → Takes bytes (plain x.0) x.1 × IsRead kind 1 x.0
 unfolding value_at
 value_takes WholeKind bytes x fits e =
-    let b = bind_ok (number_at w64 bytes) (λ n. Ok (Whole (cast_signed w64 n.0), n.1)) x e in
+    let b = bind_ok (fixed_width_at w64 bytes) (λ n. Ok (Whole (cast_signed w64 n.0), n.1)) x e in
     let t = number_takes w64 (2 ^ 64) wide64 bytes b.0.0 b.0.1 fits b.1 in
     let made : Cell × List ℕ = (Whole (cast_signed w64 b.0.0), b.0.1) in
     let same : cast_unsigned w64 (cast_signed w64 b.0.0) ≡ b.0.0 = of_z-to_z w64 b.0.0 t.1 in

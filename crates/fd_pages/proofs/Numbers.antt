@@ -7,7 +7,7 @@ use Rattle.std.proofs.lemmas.Nat.{le_bytes_4, le_bytes_8, from_le_bytes-to_le_by
 use Rattle.fd_pages.specs.declared.fault.PageFault.{PageFault}
 use Rattle.fd_pages.specs.declared.fault.PageFault.TheVariants.{BadPage}
 use Rattle.fd_pages.specs.Columns.{sized}
-use Rattle.fd_pages.specs.Reader.{◌>>=◌, number_at, sized_at}
+use Rattle.fd_pages.specs.Reader.{◌>>=◌, fixed_width_at, sized_at}
 
 abbrev pub IsBytes : List ℕ → Type 0
 IsBytes bytes = (i : ℕ) → get_or bytes i 0 < 256
@@ -68,7 +68,7 @@ wide64 = record {
   below = λ bytes fits. omega (arith, fits 0, fits 1, fits 2, fits 3, fits 4, fits 5, fits 6, fits 7);
 }
 
-pub number_takes : (w : Width) (limit : ℕ) (wide : IsWide w limit) (bytes : List ℕ) (n : ℕ) (rest : List ℕ) → IsBytes bytes → number_at w bytes ≡ Ok (n, rest) → Takes bytes (to_le_bytes w n) rest × (n < limit)
+pub number_takes : (w : Width) (limit : ℕ) (wide : IsWide w limit) (bytes : List ℕ) (n : ℕ) (rest : List ℕ) → IsBytes bytes → fixed_width_at w bytes ≡ Ok (n, rest) → Takes bytes (to_le_bytes w n) rest × (n < limit)
 number_takes w limit wide bytes n rest fits e =
     let g = guard_ok (ltb (length bytes) (byte_len w)) BadPage (from_le_bytes w (take (byte_len w) bytes), drop (byte_len w) bytes) (n, rest) e in
     let long : byte_len w ≤ length bytes = ltb-false _ _ g.0 in
@@ -77,7 +77,7 @@ number_takes w limit wide bytes n rest fits e =
     let front : to_le_bytes w n ≡ take (byte_len w) bytes = rw (← n-is) (wide.back (take (byte_len w) bytes) (omega (arith, length-take (byte_len w) bytes)) (IsBytes-take (byte_len w) bytes fits)) in
     (record { parts = rw (front, ← rest-is) (sym (take-append-drop (byte_len w) bytes)); rest_fits = rw (← rest-is) (IsBytes-drop (byte_len w) bytes fits) }, rw (← n-is) (wide.below (take (byte_len w) bytes) (IsBytes-take (byte_len w) bytes fits)))
 
-pub number_again : (w : Width) (limit : ℕ) (wide : IsWide w limit) (n : ℕ) (rest : List ℕ) → n < limit → number_at w (to_le_bytes w n ++ rest) ≡ Ok (n, rest)
+pub number_again : (w : Width) (limit : ℕ) (wide : IsWide w limit) (n : ℕ) (rest : List ℕ) → n < limit → fixed_width_at w (to_le_bytes w n ++ rest) ≡ Ok (n, rest)
 number_again w limit wide n rest lt =
     let len = wide.len n in
     let long : ltb (length (to_le_bytes w n ++ rest)) (byte_len w) ≡ false = le-ltb _ _ (omega (arith, length-append (to_le_bytes w n) rest)) in
@@ -88,7 +88,7 @@ number_again w limit wide n rest lt =
 pub sized_takes : (bytes text rest : List ℕ) → IsBytes bytes → sized_at bytes ≡ Ok (text, rest) → Takes bytes (sized text) rest × (length text < 2 ^ 32)
 unfolding sized_at
 sized_takes bytes text rest fits e =
-    let b = bind_ok (number_at w32 bytes) (λ n. cond (ltb (length n.1) n.0) (Err BadPage) (Ok (take n.0 n.1, drop n.0 n.1))) (text, rest) e in
+    let b = bind_ok (fixed_width_at w32 bytes) (λ n. cond (ltb (length n.1) n.0) (Err BadPage) (Ok (take n.0 n.1, drop n.0 n.1))) (text, rest) e in
     let n = b.0 in
     let t = number_takes w32 (2 ^ 32) wide32 bytes n.0 n.1 fits b.1 in
     let g = guard_ok (ltb (length n.1) n.0) BadPage (take n.0 n.1, drop n.0 n.1) (text, rest) b.2 in

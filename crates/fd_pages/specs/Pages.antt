@@ -76,6 +76,13 @@ pub record IsPageAt (kind : CellKind) (required : Bool) (count : ℕ) (bytes : L
   pub counted : length cells ≡ count
   pub page : IsPage kind required cells (slice_range bytes at end)
 
+-- some bytes in front are the page of so many cells, and this is the rest
+pub record BeginsPage (kind : CellKind) (required : Bool) (count : ℕ) (bytes : List ℕ) (cells : List Cell) (rest : List ℕ) : Type 0 where
+  pub front : List ℕ
+  pub whole : bytes ≡ front ++ rest
+  pub counted : length cells ≡ count
+  pub page : IsPage kind required cells front
+
 -- some of the bytes from `at` on are the page of so many cells
 abbrev pub HasPage : CellKind → Bool → ℕ → List ℕ → ℕ → Type 0
 HasPage kind required count bytes at = (cells : List Cell) × (end : ℕ) × IsPageAt kind required count bytes at cells end

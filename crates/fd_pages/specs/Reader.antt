@@ -8,7 +8,6 @@ use Rattle.fd_pages.specs.declared.cell.CellKind.TheVariants.{Whole as WholeKind
 use Rattle.fd_pages.specs.declared.cell.Cell.{Cell}
 use Rattle.fd_pages.specs.declared.cell.Cell.TheVariants.{Absent, Whole, Bytes}
 use Rattle.fd_pages.specs.Columns.{IsOfColumn, Fits}
-use Rattle.fd_pages.specs.Pages.{IsPage}
 use Rattle.fd_pages.specs.declared.fault.PageFault.{PageFault}
 use Rattle.fd_pages.specs.declared.fault.PageFault.TheVariants.{BadPage, NoMemory}
 
@@ -21,16 +20,16 @@ abbrev pub Reading : Type 0 → Type 0
 Reading A = Result (A × List ℕ) PageFault
 
 -- a number in so many bytes, the lowest first
-abbrev pub number_at : Width → List ℕ → Reading ℕ
-number_at w bytes = if nat_lt (length bytes) (byte_len w) then Err BadPage else Ok (from_le_bytes w (take (byte_len w) bytes), drop (byte_len w) bytes)
+abbrev pub fixed_width_at : Width → List ℕ → Reading ℕ
+fixed_width_at w bytes = if nat_lt (length bytes) (byte_len w) then Err BadPage else Ok (from_le_bytes w (take (byte_len w) bytes), drop (byte_len w) bytes)
 
 -- a length, and so many bytes
 unfoldable pub sized_at : List ℕ → Reading (List ℕ)
-sized_at bytes = number_at w32 bytes >>= λ size. if nat_lt (length size.1) size.0 then Err BadPage else Ok (take size.0 size.1, drop size.0 size.1)
+sized_at bytes = fixed_width_at w32 bytes >>= λ size. if nat_lt (length size.1) size.0 then Err BadPage else Ok (take size.0 size.1, drop size.0 size.1)
 
 -- a value of this kind
 unfoldable pub value_at : CellKind → List ℕ → Reading Cell
-value_at WholeKind bytes = number_at w64 bytes >>= λ number. Ok (Whole (cast_signed w64 number.0), number.1)
+value_at WholeKind bytes = fixed_width_at w64 bytes >>= λ number. Ok (Whole (cast_signed w64 number.0), number.1)
 value_at BytesKind bytes = sized_at bytes >>= λ text. Ok (Bytes text.0, text.1)
 
 -- a value where its level is not 0
@@ -54,9 +53,9 @@ abbrev pub with_front : List Cell → Reading (List Cell) → Reading (List Cell
 with_front front read = read >>= λ x. Ok (front ++ x.0, x.1)
 
 -- what a call that takes no memory answers, seen by `see`, is what reading gives
-abbrev pub Answers : {X Y : Type 0} → (X → Y) → Result X PageFault → Result Y PageFault → Type 0
-Answers see (Ok x) read = read ≡ Ok (see x)
-Answers see (Err e) read = read ≡ Err e
+abbrev pub Decodes : {X Y : Type 0} → (X → Y) → Result X PageFault → Result Y PageFault → Type 0
+Decodes see (Ok x) read = read ≡ Ok (see x)
+Decodes see (Err e) read = read ≡ Err e
 
 -- the reading is refused by this fault, unless memory ran out
 abbrev pub Fails : {Y : Type 0} → PageFault → Result Y PageFault → Type 0
@@ -64,22 +63,15 @@ Fails NoMemory read = Unit {0}
 Fails BadPage read = read ≡ Err BadPage
 
 -- what a call that takes memory answers, seen by `see`, is what reading gives, unless memory ran out
-abbrev pub Reads : {X Y : Type 0} → (X → Y) → Result X PageFault → Result Y PageFault → Type 0
-Reads see (Ok x) read = read ≡ Ok (see x)
-Reads see (Err e) read = Fails e read
+abbrev pub DecodesOrRunsOut : {X Y : Type 0} → (X → Y) → Result X PageFault → Result Y PageFault → Type 0
+DecodesOrRunsOut see (Ok x) read = read ≡ Ok (see x)
+DecodesOrRunsOut see (Err e) read = Fails e read
 
 -- so many cells of a column
 pub record AreCells (kind : CellKind) (required : Bool) (count : ℕ) (cells : List Cell) : Type 0 where
   pub counted : length cells ≡ count
   pub column : All (IsOfColumn kind required) cells
   pub fit : All Fits cells
-
--- A front of the bytes is the page of these cells, and this is the rest.
-pub record Begins (kind : CellKind) (required : Bool) (count : ℕ) (bytes : List ℕ) (cells : List Cell) (rest : List ℕ) : Type 0 where
-  pub page : List ℕ
-  pub whole : bytes ≡ page ++ rest
-  pub counted : length cells ≡ count
-  pub spelled : IsPage kind required cells page
 
 -- what a fault of the header's tree is for a page
 abbrev pub fault_of : ThriftFault → PageFault

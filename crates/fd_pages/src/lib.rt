@@ -28,5 +28,5 @@ pub use laws::{
     dictionaries_are_as_described, faulty_dictionaries_are_none, levels_are_short, one_code_page,
     one_coding, one_dictionary, one_page,
 };
-pub use reader::read_page;
+pub use reader::{read_first_page, read_page};
 pub use writer::write_page;

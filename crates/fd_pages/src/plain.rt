@@ -1,6 +1,6 @@
 ghost use Rattle.std.specs.Prelude.{◌≡◌, List, length, replicate, Ok};
 ghost use Rattle.std.specs.Int.{w32, w64, cast_signed};
-ghost use Rattle.fd_pages.specs.Reader.{Answers, Reads, number_at, sized_at, value_at, cell_at, cells_at, ended};
+ghost use Rattle.fd_pages.specs.Reader.{Decodes, DecodesOrRunsOut, fixed_width_at, sized_at, value_at, cell_at, cells_at, ended};
 
 use crate::{Cell, CellKind, CellList, PageFault};
 use fd_lists::{Bytes, Items};
@@ -8,7 +8,7 @@ use std::alloc::Global;
 
 /// The number in the first four bytes, the lowest first, and the bytes behind them.
 fn u32_at(bytes: &[u8]) -> Result<(u32, &[u8]), PageFault>
-    ensures { Answers (λ x. (x.0, x.1.now)) result (number_at w32 bytes.now) }
+    ensures { Decodes (λ x. (x.0, x.1.now)) result (fixed_width_at w32 bytes.now) }
 {
     if bytes.len() < 4 {
         return Err(PageFault::BadPage);
@@ -20,7 +20,7 @@ fn u32_at(bytes: &[u8]) -> Result<(u32, &[u8]), PageFault>
 
 /// The number in the first eight bytes, the lowest first, and the bytes behind them.
 fn u64_at(bytes: &[u8]) -> Result<(u64, &[u8]), PageFault>
-    ensures { Answers (λ x. (x.0, x.1.now)) result (number_at w64 bytes.now) }
+    ensures { Decodes (λ x. (x.0, x.1.now)) result (fixed_width_at w64 bytes.now) }
 {
     if bytes.len() < 8 {
         return Err(PageFault::BadPage);
@@ -35,7 +35,7 @@ fn u64_at(bytes: &[u8]) -> Result<(u64, &[u8]), PageFault>
 /// The bytes that stand behind their length, and those behind them.
 #[tactic(auto, unfolding(crate::specs::Reader::sized_at))]
 pub(crate) fn sized_of(bytes: &[u8]) -> Result<(&[u8], &[u8]), PageFault>
-    ensures { Answers (λ x. (x.0.now, x.1.now)) result (sized_at bytes.now) }
+    ensures { Decodes (λ x. (x.0.now, x.1.now)) result (sized_at bytes.now) }
 {
     let (size, rest) = u32_at(bytes)?;
     let size = size as usize;
@@ -48,7 +48,7 @@ pub(crate) fn sized_of(bytes: &[u8]) -> Result<(&[u8], &[u8]), PageFault>
 /// A value of this kind, and the bytes behind it.
 #[tactic(auto, unfolding(crate::specs::Reader::value_at))]
 fn value_of(alloc: Global, kind: CellKind, bytes: &[u8]) -> Result<(Cell, &[u8]), PageFault>
-    ensures { Reads (λ x. (x.0, x.1.now)) result (value_at kind bytes.now) }
+    ensures { DecodesOrRunsOut (λ x. (x.0, x.1.now)) result (value_at kind bytes.now) }
 {
     match kind {
         CellKind::Whole => {
@@ -70,7 +70,7 @@ fn cell_of(
     level: u32,
     bytes: &[u8],
 ) -> Result<(Cell, &[u8]), PageFault>
-    ensures { Reads (λ x. (x.0, x.1.now)) result (cell_at kind level bytes.now) }
+    ensures { DecodesOrRunsOut (λ x. (x.0, x.1.now)) result (cell_at kind level bytes.now) }
 {
     if level == 0 {
         return Ok((Cell::Absent, bytes));
@@ -85,7 +85,7 @@ fn cells_of<'a>(
     levels: &[u32],
     bytes: &'a [u8],
 ) -> Result<(CellList, &'a [u8]), PageFault>
-    ensures { Reads (λ x. (x.0, x.1.now)) result (cells_at kind levels.now bytes.now) }
+    ensures { DecodesOrRunsOut (λ x. (x.0, x.1.now)) result (cells_at kind levels.now bytes.now) }
 {
     let mut cells = Items::new(alloc);
     let mut rest = bytes;
@@ -104,7 +104,8 @@ fn values_of(
     count: usize,
     bytes: &[u8],
 ) -> Result<(CellList, &[u8]), PageFault>
-    ensures { Reads (λ x. (x.0, x.1.now)) result (cells_at kind (replicate count 1) bytes.now) }
+    ensures { DecodesOrRunsOut (λ x. (x.0, x.1.now)) result
+        (cells_at kind (replicate count 1) bytes.now) }
 {
     let mut cells = Items::new(alloc);
     let mut rest = bytes;
@@ -123,7 +124,8 @@ pub(crate) fn all_cells(
     levels: &[u32],
     bytes: &[u8],
 ) -> Result<CellList, PageFault>
-    ensures { Reads (λ cells. cells) result (ended (cells_at kind levels.now bytes.now)) }
+    ensures { DecodesOrRunsOut (λ cells. cells) result
+        (ended (cells_at kind levels.now bytes.now)) }
 {
     let (cells, rest) = cells_of(alloc, kind, levels, bytes)?;
     if !rest.is_empty() {
@@ -139,7 +141,8 @@ pub(crate) fn all_values(
     count: usize,
     bytes: &[u8],
 ) -> Result<CellList, PageFault>
-    ensures { Reads (λ cells. cells) result (ended (cells_at kind (replicate count 1) bytes.now)) }
+    ensures { DecodesOrRunsOut (λ cells. cells) result
+        (ended (cells_at kind (replicate count 1) bytes.now)) }
 {
     let (cells, rest) = values_of(alloc, kind, count, bytes)?;
     if !rest.is_empty() {

@@ -1,7 +1,7 @@
 ghost use Rattle.std.specs.Prelude.{◌≡◌, ◌<◌, ◌≤◌, ◌^◌, ℕ, true, false, List, length, IfOk, Ok, Err};
 ghost use Rattle.fd_pages.specs.declared.cell.Cell.{Cell as AnyCell};
-ghost use Rattle.fd_pages.specs.Pages.{IsBody, IsPageAt, HasPage, Gives, SeenGives};
-ghost use Rattle.fd_pages.specs.Reader.{AreCells, Begins};
+ghost use Rattle.fd_pages.specs.Pages.{IsBody, IsPageAt, BeginsPage, HasPage, Gives, SeenGives};
+ghost use Rattle.fd_pages.specs.Reader.{AreCells};
 
 use crate::header::header_of;
 use crate::levels::levels_in;
@@ -63,17 +63,18 @@ fn cells_in(
     }
 }
 
-/// The cells of the page of `count` cells in front of the bytes, and the bytes behind it.
-fn page_of(
+/// Reads the page of `count` cells that stands in front of the bytes, and the bytes behind it, as
+/// `read_page` does.
+pub fn read_first_page(
     alloc: Global,
     bytes: &[u8],
     kind: CellKind,
     required: bool,
     count: usize,
 ) -> Result<(CellList, &[u8]), PageFault>
-    ensures found { IfOk result (λ r. Begins kind required count bytes.now r.0 r.1.now) }
+    ensures found { IfOk result (λ r. BeginsPage kind required count bytes.now r.0 r.1.now) }
     ensures only { (cells : List AnyCell) (rest : List ℕ)
-        → Begins kind required count bytes.now cells rest
+        → BeginsPage kind required count bytes.now cells rest
         → SeenGives {Y = List AnyCell × List ℕ} (λ r. (r.0, r.1.now)) result (Ok (cells, rest)) }
 {
     if count == 0 || count > MAX_ROWS {
@@ -112,7 +113,7 @@ pub fn read_page(
     ensures bad_only { (¬ HasPage kind required count bytes.now at)
         → Gives result (Err PageFault.BadPage) }
 {
-    let (cells, rest) = page_of(alloc, &bytes[at..], kind, required, count)?;
+    let (cells, rest) = read_first_page(alloc, &bytes[at..], kind, required, count)?;
     let cells = Cells {
         kind,
         required,

@@ -1,6 +1,5 @@
 -- Columns whose chunks are read one after the other.
 use Rattle.std.proofs.Common.{◌≡◌, ℕ, zero, suc, ◌+◌, ◌-◌, ◌<◌, ◌≤◌, List, [], ◌∷◌, ◌++◌, length, drop, get_or, refl, sym, ap, ◌∙◌, subst, append_assoc, arith, rules, length-append, Ok, Err, Result}
-use Rattle.std.specs.List.{concat}
 use Rattle.std.proofs.lemmas.List.{append-nil, drop_more, drop_all}
 use Rattle.fd_pages.specs.declared.cell.Cell.{Cell}
 use Rattle.fd_pages.specs.declared.fault.PageFault.{PageFault}
@@ -11,11 +10,12 @@ use Rattle.fd_footer.specs.declared.footer.Chunk.{Chunk}
 use Rattle.fd_footer.specs.declared.footer.Column.{Column}
 use Rattle.fd_parquet.specs.declared.fault.FileFault.{FileFault}
 use Rattle.fd_parquet.specs.declared.fault.FileFault.TheVariants.{Page, NoMemory}
-use Rattle.fd_table_file.specs.Files.{chunk_at, places_from}
+use Rattle.fd_table_file.specs.Files.{chunk_at, plain_chunk_at, places_from, chunk_bytes}
+use Rattle.fd_table_file.specs.Chunks.{Pieces, piece_bytes}
 use Rattle.std.specs.Borrow.{Bor}
 use Rattle.fd_parquet.specs.declared.columns.ColumnCells.{ColumnCells as AnyColumns}
-use Rattle.fd_parquet.proofs.PageReads.{Read, seen}
-use Rattle.fd_parquet.specs.Refusals.{BeginsChunk, AreColumns, BeginsColumns, FailsAt, IsRefused, Gives}
+use Rattle.fd_parquet.proofs.PageReads.{Read, seen, no_dictionary}
+use Rattle.fd_parquet.specs.Refusals.{BeginsChunk, AreColumns, BeginsColumns, FailsAt, IsRefused, Finds}
 use Rattle.fd_parquet.specs.Stages.{IsFailure}
 
 -- all cells and places are those so far and these, which the bytes that are left spell
@@ -66,18 +66,28 @@ ok_is a b e = ap (λ r. or_else a r) e
 bad_none : {A : Type 0} (x : A) → ◌≡◌ {A = Result A PageFault} (Err page.BadPage) (Ok x) → ⊥
 bad_none x e = search (rules, e)
 
-joined_more : (pages : Pages) (count place next size : ℕ) (f : Column) (fs : List Column) (bytes : List ℕ) (read : List Cell) (behind : List ℕ) (more : List (List Cell)) (places : List Chunk) (end : List ℕ)
+-- what is known of the place of a chunk without a dictionary
+abbrev pub ArePlain : Type 0
+ArePlain = (at : ℕ) (chunk : Pieces) → chunk.dictionary ≡ [] → chunk_at at chunk ≡ plain_chunk_at at (length (piece_bytes chunk))
+
+place_is : ArePlain → (pages : Pages) (f : Column) (count : ℕ) (bytes : List ℕ) (cells : List Cell) (rest : List ℕ) (place size : ℕ) → (c : BeginsChunk pages f count bytes cells rest)
+    → size ≡ length (piece_bytes c.front) → plain_chunk_at place size ≡ chunk_at place c.front
+place_is plain pages f count bytes cells rest place size c is =
+    ap (λ m. plain_chunk_at place m) is ∙ sym (plain place c.front (no_dictionary pages f count cells c.front c.is))
+
+joined_more : ArePlain → (pages : Pages) (count place next size : ℕ) (f : Column) (fs : List Column) (bytes : List ℕ) (read : List Cell) (behind : List ℕ) (more : List (List Cell)) (places : List Chunk) (end : List ℕ)
     → length bytes ≡ size + length behind → next ≡ place + size
     → BeginsChunk pages f count bytes read behind → BeginsColumns pages count next fs behind more places end
-    → BeginsColumns pages count place (f ∷ fs) bytes (read ∷ more) (chunk_at place size ∷ places) end
-joined_more pages count place next size f fs bytes read behind more places end len is c b =
-    let n : length bytes ≡ length c.front + length behind = ap length c.whole ∙ length-append c.front behind in
-    let s : size ≡ length c.front = omega (arith, n, len) in
+    → BeginsColumns pages count place (f ∷ fs) bytes (read ∷ more) (plain_chunk_at place size ∷ places) end
+joined_more plain pages count place next size f fs bytes read behind more places end len is c b =
+    let n : length bytes ≡ length (piece_bytes c.front) + length behind = ap length c.whole ∙ length-append (piece_bytes c.front) behind in
+    let s : size ≡ length (piece_bytes c.front) = omega (arith, n, len) in
     record {
       chunks = c.front ∷ b.chunks;
-      whole = c.whole ∙ ap (λ xs. c.front ++ xs) b.whole ∙ sym (append_assoc c.front (concat b.chunks) end);
+      whole = c.whole ∙ ap (λ xs. piece_bytes c.front ++ xs) b.whole ∙ sym (append_assoc (piece_bytes c.front) (chunk_bytes b.chunks) end);
       are = (c.is, b.are);
-      placed = ap (λ m. chunk_at place m ∷ places) s ∙ ap (λ ks. chunk_at place (length c.front) ∷ ks) (b.placed ∙ ap (λ m. places_from m b.chunks) (is ∙ ap (λ m. place + m) s));
+      placed = ap (λ k. k ∷ places) (place_is plain pages f count bytes read behind place size c s)
+          ∙ ap (λ ks. chunk_at place c.front ∷ ks) (b.placed ∙ ap (λ m. places_from m b.chunks) (is ∙ ap (λ m. place + m) s));
     }
 
 -- the first column of some, and the others
@@ -88,20 +98,20 @@ record HasFirst (pages : Pages) (count place : ℕ) (f : Column) (fs : List Colu
   middle : List ℕ
   begun : BeginsChunk pages f count bytes first middle
   split : cells ≡ first ∷ others
-  split_places : places ≡ chunk_at place (length begun.front) ∷ other_places
-  goes : BeginsColumns pages count (place + length begun.front) fs middle others other_places end
+  split_places : places ≡ chunk_at place begun.front ∷ other_places
+  goes : BeginsColumns pages count (place + length (piece_bytes begun.front)) fs middle others other_places end
 
-first_of : (pages : Pages) (count place : ℕ) (f : Column) (fs : List Column) (bytes : List ℕ) (cells : List (List Cell)) (places : List Chunk) (end : List ℕ) (chunks : List (List ℕ))
-    → bytes ≡ concat chunks ++ end → AreColumns pages count (f ∷ fs) cells chunks → places ≡ places_from place chunks → HasFirst pages count place f fs bytes cells places end
+first_of : (pages : Pages) (count place : ℕ) (f : Column) (fs : List Column) (bytes : List ℕ) (cells : List (List Cell)) (places : List Chunk) (end : List ℕ) (chunks : List Pieces)
+    → bytes ≡ chunk_bytes chunks ++ end → AreColumns pages count (f ∷ fs) cells chunks → places ≡ places_from place chunks → HasFirst pages count place f fs bytes cells places end
 first_of pages count place f fs bytes [] places end [] whole are placed = absurd are
 first_of pages count place f fs bytes [] places end (x ∷ xs) whole are placed = absurd are
 first_of pages count place f fs bytes (c ∷ cs) places end [] whole are placed = absurd are
 first_of pages count place f fs bytes (c ∷ cs) places end (x ∷ xs) whole are placed = record {
   first = c;
   others = cs;
-  other_places = places_from (place + length x) xs;
-  middle = concat xs ++ end;
-  begun = record { front = x; whole = whole ∙ append_assoc x (concat xs) end; is = are.0 };
+  other_places = places_from (place + length (piece_bytes x)) xs;
+  middle = chunk_bytes xs ++ end;
+  begun = record { front = x; whole = whole ∙ append_assoc (piece_bytes x) (chunk_bytes xs) end; is = are.0 };
   split = refl;
   split_places = placed;
   goes = record { chunks = xs; whole = refl; are = are.1; placed = refl };
@@ -124,32 +134,32 @@ module _ (pages : Pages) (count : ℕ) (columns : List Column) (bytes : List ℕ
   here : drop at columns ≡ f ∷ drop (at + 1) columns
   here = drop_more columns at f lt ∙ ap (λ c. c ∷ drop (at + 1) columns) (sym is)
 
-  columns_with : (read : List Cell) (behind : List ℕ) (size : ℕ) → length behind + size ≡ length rest → BeginsChunk pages f count rest read behind → IsOne pages f count rest read behind
-      → ReadsColumns pages count columns bytes (at + 1) (cells ++ read ∷ []) (places ++ chunk_at (4 + (length bytes - length rest)) size ∷ []) behind
-  columns_with read behind size len c one =
+  columns_with : ArePlain → (read : List Cell) (behind : List ℕ) (size : ℕ) → length behind + size ≡ length rest → BeginsChunk pages f count rest read behind → IsOne pages f count rest read behind
+      → ReadsColumns pages count columns bytes (at + 1) (cells ++ read ∷ []) (places ++ plain_chunk_at (4 + (length bytes - length rest)) size ∷ []) behind
+  columns_with plain read behind size len c one =
       let within : length rest ≤ length bytes = reads.within in
       let next : 4 + (length bytes - length behind) ≡ 4 + (length bytes - length rest) + size = omega (arith, len, within) in
       let place : ℕ = 4 + (length bytes - length rest) in
       record {
         within = omega (arith, len, within);
         joined = λ more more_places end b.
-            let all = joined_more pages count place (4 + (length bytes - length behind)) size f (drop (at + 1) columns) rest read behind more more_places end (omega (arith, len)) next c b in
-            let joined = reads.joined (read ∷ more) (chunk_at place size ∷ more_places) end (subst (λ cs. BeginsColumns pages count place cs rest (read ∷ more) (chunk_at place size ∷ more_places) end) (sym here) all) in
-            subst (λ xs. BeginsColumns pages count 4 columns bytes xs ((places ++ chunk_at place size ∷ []) ++ more_places) end) (sym (append_assoc cells (read ∷ []) more))
-            (subst (λ ks. BeginsColumns pages count 4 columns bytes (cells ++ read ∷ more) ks end) (sym (append_assoc places (chunk_at place size ∷ []) more_places)) joined);
+            let all = joined_more plain pages count place (4 + (length bytes - length behind)) size f (drop (at + 1) columns) rest read behind more more_places end (omega (arith, len)) next c b in
+            let joined = reads.joined (read ∷ more) (plain_chunk_at place size ∷ more_places) end (subst (λ cs. BeginsColumns pages count place cs rest (read ∷ more) (plain_chunk_at place size ∷ more_places) end) (sym here) all) in
+            subst (λ xs. BeginsColumns pages count 4 columns bytes xs ((places ++ plain_chunk_at place size ∷ []) ++ more_places) end) (sym (append_assoc cells (read ∷ []) more))
+            (subst (λ ks. BeginsColumns pages count 4 columns bytes (cells ++ read ∷ more) ks end) (sym (append_assoc places (plain_chunk_at place size ∷ []) more_places)) joined);
         parted = λ all all_places end b.
             let g = reads.parted all all_places end b in
             let first = first_column pages count place f (drop (at + 1) columns) rest g.more g.more_places end (subst (λ cs. BeginsColumns pages count place cs rest g.more g.more_places end) here g.begins) in
             let same = ok_is (read, behind) (first.first, first.middle) (one first.first first.middle first.begun) in
             let cell : read ≡ first.first = ap (λ x. x.0) same in
             let left : behind ≡ first.middle = ap (λ x. x.1) same in
-            let n : length rest ≡ length first.begun.front + length first.middle = ap length first.begun.whole ∙ length-append first.begun.front first.middle in
-            let s : size ≡ length first.begun.front = omega (arith, n, len, ap length left) in
+            let n : length rest ≡ length (piece_bytes first.begun.front) + length first.middle = ap length first.begun.whole ∙ length-append (piece_bytes first.begun.front) first.middle in
+            let s : size ≡ length (piece_bytes first.begun.front) = omega (arith, n, len, ap length left) in
             record {
               more = first.others;
               more_places = first.other_places;
               split = g.split ∙ ap (λ xs. cells ++ xs) (first.split ∙ ap (λ x. x ∷ first.others) (sym cell)) ∙ sym (append_assoc cells (read ∷ []) first.others);
-              split_places = g.split_places ∙ ap (λ xs. places ++ xs) (first.split_places ∙ ap (λ m. chunk_at place m ∷ first.other_places) (sym s)) ∙ sym (append_assoc places (chunk_at place size ∷ []) first.other_places);
+              split_places = g.split_places ∙ ap (λ xs. places ++ xs) (first.split_places ∙ ap (λ k. k ∷ first.other_places) (sym (place_is plain pages f count rest first.first first.middle place size first.begun s))) ∙ sym (append_assoc places (plain_chunk_at place size ∷ []) first.other_places);
               begins = subst (λ xs. BeginsColumns pages count (4 + (length bytes - length behind)) (drop (at + 1) columns) xs first.others first.other_places end) (sym left)
                   (subst (λ m. BeginsColumns pages count m (drop (at + 1) columns) first.middle first.others first.other_places end) (ap (λ m. place + m) (sym s) ∙ sym next) first.goes);
             };
@@ -162,13 +172,13 @@ module _ (pages : Pages) (count : ℕ) (columns : List Column) (bytes : List ℕ
             (i, omega (arith, e, d), f_i);
       }
 
-  pub columns_more : (read : List Cell) (behind : List ℕ) (k : Chunk) → k ≡ chunk_at (4 + (length bytes - length rest)) (length rest - length behind)
+  pub columns_more : ArePlain → (read : List Cell) (behind : List ℕ) (k : Chunk) → k ≡ plain_chunk_at (4 + (length bytes - length rest)) (length rest - length behind)
       → BeginsChunk pages f count rest read behind → IsOne pages f count rest read behind
       → ReadsColumns pages count columns bytes (at + 1) (cells ++ read ∷ []) (places ++ k ∷ []) behind
-  columns_more read behind k is_k c one =
-      let n : length rest ≡ length c.front + length behind = ap length c.whole ∙ length-append c.front behind in
+  columns_more plain read behind k is_k c one =
+      let n : length rest ≡ length (piece_bytes c.front) + length behind = ap length c.whole ∙ length-append (piece_bytes c.front) behind in
       subst (λ x. ReadsColumns pages count columns bytes (at + 1) (cells ++ read ∷ []) (places ++ x ∷ []) behind) (sym is_k)
-      (columns_with read behind (length rest - length behind) (omega (arith, n)) c one)
+      (columns_with plain read behind (length rest - length behind) (omega (arith, n)) c one)
 
   -- the column there has no chunk
   none_there : ((read : List Cell) (behind : List ℕ) → BeginsChunk pages f count rest read behind → ⊥) → (all : List (List Cell)) (all_places : List Chunk) (end : List ℕ)
@@ -197,9 +207,9 @@ module _ (pages : Pages) (count : ℕ) (columns : List Column) (bytes : List ℕ
   pub refused_gives : (fault : PageFault) (told : FileFault) → (fault ≡ page.BadPage → told ≡ Page at) → (fault ≡ page.NoMemory → told ≡ NoMemory)
       → ((read : List Cell) (behind : List ℕ) → BeginsChunk pages f count rest read behind → SeenGives {X = Read} {Y = List Cell × List ℕ} seen (Err fault) (Ok (read, behind)))
       → (all : List (List Cell)) (all_places : List Chunk) (end : List ℕ) → BeginsColumns pages count 4 columns bytes all all_places end
-      → Gives {X = AnyColumns × Bor (List ℕ)} {Y = (List (List Cell) × List Chunk) × List ℕ} (λ r. ((r.0.cells, r.0.places), r.1.now)) (Err told) ((all, all_places), end)
+      → Finds {X = AnyColumns × Bor (List ℕ)} {Y = (List (List Cell) × List Chunk) × List ℕ} (λ r. ((r.0.cells, r.0.places), r.1.now)) (Err told) ((all, all_places), end)
   refused_gives page.NoMemory told bad memory none all all_places end b =
-      subst (λ t. Gives {X = AnyColumns × Bor (List ℕ)} {Y = (List (List Cell) × List Chunk) × List ℕ} (λ r. ((r.0.cells, r.0.places), r.1.now)) (Err t) ((all, all_places), end)) (sym (memory refl)) tt
+      subst (λ t. Finds {X = AnyColumns × Bor (List ℕ)} {Y = (List (List Cell) × List Chunk) × List ℕ} (λ r. ((r.0.cells, r.0.places), r.1.now)) (Err t) ((all, all_places), end)) (sym (memory refl)) tt
   refused_gives page.BadPage told bad memory none all all_places end b = absurd (none_there (λ read behind begins. bad_none (read, behind) (none read behind begins)) all all_places end b)
 
   pub refused_fails : (fault : PageFault) (told : FileFault) → (fault ≡ page.BadPage → told ≡ Page at) → (fault ≡ page.NoMemory → told ≡ NoMemory)
@@ -234,8 +244,8 @@ record IsEnd (more : List (List Cell)) (more_places : List Chunk) (rest end : Li
   places : more_places ≡ []
   left : rest ≡ end
 
-end_of : (pages : Pages) (count place : ℕ) (rest : List ℕ) (more : List (List Cell)) (more_places : List Chunk) (end : List ℕ) (chunks : List (List ℕ))
-    → rest ≡ concat chunks ++ end → AreColumns pages count [] more chunks → more_places ≡ places_from place chunks → IsEnd more more_places rest end
+end_of : (pages : Pages) (count place : ℕ) (rest : List ℕ) (more : List (List Cell)) (more_places : List Chunk) (end : List ℕ) (chunks : List Pieces)
+    → rest ≡ chunk_bytes chunks ++ end → AreColumns pages count [] more chunks → more_places ≡ places_from place chunks → IsEnd more more_places rest end
 end_of pages count place rest [] more_places end [] whole are placed = record { cells = refl; places = placed; left = whole }
 end_of pages count place rest [] more_places end (x ∷ xs) whole are placed = absurd are
 end_of pages count place rest (c ∷ cs) more_places end [] whole are placed = absurd are

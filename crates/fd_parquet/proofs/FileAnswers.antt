@@ -6,6 +6,8 @@ use Rattle.fd_column.specs.Cells.{columns_of}
 use Rattle.fd_thrift.specs.Values.{Value}
 use Rattle.fd_thrift.specs.Format.{Spells}
 use Rattle.fd_pages.specs.declared.cell.Cell.{Cell}
+use Rattle.fd_footer.specs.declared.footer.Pages.{Pages}
+use Rattle.fd_footer.specs.declared.footer.Pages.TheVariants.{Plain}
 use Rattle.fd_footer.specs.declared.footer.Chunk.{Chunk}
 use Rattle.fd_footer.specs.declared.footer.Footer.{Footer}
 use Rattle.fd_footer.specs.declared.table.FooterTable.{FooterTable}
@@ -17,7 +19,7 @@ use Rattle.fd_parquet.specs.declared.fault.FileFault.{FileFault}
 use Rattle.fd_parquet.specs.declared.fault.FileFault.TheVariants.{Magic, Footer as FooterFault, Schema, Page, NoMemory}
 use Rattle.fd_table_file.specs.Columns.{cells_of}
 use Rattle.fd_table_file.specs.Files.{places_from, footer_at}
-use Rattle.fd_parquet.specs.Refusals.{IsRefused, Gives}
+use Rattle.fd_parquet.specs.Refusals.{IsRefused, Finds}
 use Rattle.fd_parquet.specs.Stages.{HasTable, AreParts, TellsOrRefuses, told_of}
 use Rattle.fd_parquet.proofs.LayoutLaws.{columns_own}
 use Rattle.fd_parquet.proofs.Injectivity.{some_is, not_some}
@@ -49,7 +51,7 @@ none_left rest b is none = empty rest (zero_only (length rest) (sym is ∙ none)
     empty (x ∷ xs) e = search (rules, e)
 
 -- the parts of a table are those that were read
-pub read_table : (body footer : List ℕ) (told : FooterTable) (rows : List Numbered) (lo hi : ℕ) (cells : List (List Cell)) (places : List Chunk) (rest : List ℕ) → told ≡ told_of rows lo hi → (p : AreParts body footer rows lo hi)
+pub read_table : (body footer : List ℕ) (told : FooterTable) (rows : List Numbered) (lo hi : ℕ) (cells : List (List Cell)) (places : List Chunk) (rest : List ℕ) → told ≡ told_of Plain rows lo hi → (p : AreParts Plain body footer rows lo hi)
     → ◌≡◌ {A = Parts} ((cells, places), rest) ((map (λ c. cells_of c rows) (columns_of rows), places_from 4 p.chunks), []) → HasTable told cells places footer rows lo hi
 read_table body footer told rows lo hi cells places rest is p same =
     subst (λ (q : Parts). HasTable told q.0.0 q.0.1 footer rows lo hi) (sym same) (parts_table body footer rows lo hi told is p)
@@ -67,18 +69,18 @@ pub own_tells : ((f : Footer) → has_shape (footer_value f) ≡ true)
     → ((f : Footer) → IsWritable f → have_text_names f.columns ≡ true → are_own f.columns ≡ true
     → ◌≡◌ {A = Option FooterTable} (table_of (footer_value f)) (Some (record { pages = f.pages; lo = Some f.lo; hi = Some f.hi; rows = pos f.rows; columns = f.columns })))
     → AreSpelled
-    → (body footer : List ℕ) (rows : List Numbered) (lo hi : ℕ) → AreParts body footer rows lo hi → length footer < 2 ^ 32
-    → (v : Value) × Spells footer v × (has_shape v ≡ true) × (table_of v ≡ Some (told_of rows lo hi))
-own_tells shapes tables spells body footer rows lo hi p short =
-    let f : Footer = footer_at rows lo hi (places_from 4 p.chunks) in
+    → (pages : Pages) (body footer : List ℕ) (rows : List Numbered) (lo hi : ℕ) → AreParts pages body footer rows lo hi → length footer < 2 ^ 32
+    → (v : Value) × Spells footer v × (has_shape v ≡ true) × (table_of v ≡ Some (told_of pages rows lo hi))
+own_tells shapes tables spells pages body footer rows lo hi p short =
+    let f : Footer = footer_at pages rows lo hi (places_from 4 p.chunks) in
     let few : length (footer_bytes f) < 2 ^ 64 = omega (arith, short, ap length p.footer_is.spelled) in (
       footer_value f,
       subst (λ b. Spells b (footer_value f)) (sym p.footer_is.spelled) (spells f p.footer_is.writable few),
       shapes f,
-      tables f p.footer_is.writable (parts_tell body footer rows lo hi p) (columns_own rows),
+      tables f p.footer_is.writable (parts_tell pages body footer rows lo hi p) (columns_own rows),
     )
 
-pub told_gives : {X Y : Type 0} (see : X → Y) (v : Value) (t : FooterTable) (fault : FileFault) (y : Y) → has_shape v ≡ true → table_of v ≡ Some t → TellsOrRefuses v (Err fault) → Gives see (Err fault) y
+pub told_gives : {X Y : Type 0} (see : X → Y) (v : Value) (t : FooterTable) (fault : FileFault) (y : Y) → has_shape v ≡ true → table_of v ≡ Some t → TellsOrRefuses v (Err fault) → Finds see (Err fault) y
 told_gives see v t Magic y shape told r = absurd r
 told_gives see v t FooterFault y shape told r = absurd (true≢false (sym shape ∙ r))
 told_gives see v t Schema y shape told r = absurd (not_some t (sym r.1 ∙ told))

@@ -10,7 +10,8 @@ use Rattle.fd_column.proofs.NameLaws.{is_under, are_rising, rest_rises, first_un
 use Rattle.fd_footer.specs.Layout.{are_own, are_labels_above}
 use Rattle.fd_footer.specs.Contents.{have_text_names}
 use Rattle.fd_table_file.specs.Columns.{file_column}
-use Rattle.fd_table_file.specs.Chunks.{IsChunkOf}
+use Rattle.fd_footer.specs.declared.footer.Pages.{Pages}
+use Rattle.fd_table_file.specs.Chunks.{Pieces, IsChunkOf}
 
 pprof_rise : (last : List ℕ) (others : List (List ℕ)) → IsTrue (is_under last others) → IsTrue (are_rising others)
     → are_labels_above (codes "pprof_labels." ++ last) (map file_column (map pprof_label others)) ≡ true
@@ -41,14 +42,14 @@ text_names (c ∷ cs) all = rw (is_utf8-from_IsUtf8 (column_name c) (All-head Is
 pub names_are_texts : (rows : List Numbered) → All IsUtf8 (map column_name (columns_of rows)) → have_text_names (map file_column (columns_of rows)) ≡ true
 names_are_texts rows all = text_names (columns_of rows) all
 
-chunk_names : (rows : List Numbered) (cs : List Column) (chunks : List (List ℕ)) → AllZip (IsChunkOf rows) cs chunks → have_text_names (map file_column cs) ≡ true
-chunk_names rows [] [] are = refl
-chunk_names rows [] (x ∷ xs) are = refl
-chunk_names rows (c ∷ cs) [] are = absurd are
-chunk_names rows (c ∷ cs) (x ∷ xs) are =
-    let first : IsChunkOf rows c x = are.0 in
-    rw (is_utf8-from_IsUtf8 (column_name c) first.name) (chunk_names rows cs xs are.1)
+chunk_names : (pages : Pages) (rows : List Numbered) (cs : List Column) (chunks : List Pieces) → AllZip (IsChunkOf pages rows) cs chunks → have_text_names (map file_column cs) ≡ true
+chunk_names pages rows [] [] are = refl
+chunk_names pages rows [] (x ∷ xs) are = refl
+chunk_names pages rows (c ∷ cs) [] are = absurd are
+chunk_names pages rows (c ∷ cs) (x ∷ xs) are =
+    let first : IsChunkOf pages rows c x = are.0 in
+    rw (is_utf8-from_IsUtf8 (column_name c) first.name) (chunk_names pages rows cs xs are.1)
 
 -- the names of columns that have chunks
-pub chunked_names : (rows : List Numbered) (chunks : List (List ℕ)) → AllZip (IsChunkOf rows) (columns_of rows) chunks → have_text_names (map file_column (columns_of rows)) ≡ true
-chunked_names rows chunks are = chunk_names rows (columns_of rows) chunks are
+pub chunked_names : (pages : Pages) (rows : List Numbered) (chunks : List Pieces) → AllZip (IsChunkOf pages rows) (columns_of rows) chunks → have_text_names (map file_column (columns_of rows)) ≡ true
+chunked_names pages rows chunks are = chunk_names pages rows (columns_of rows) chunks are

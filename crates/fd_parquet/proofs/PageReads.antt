@@ -1,17 +1,19 @@
 -- Pages that are read one after the other are the chunk of their cells.
-use Rattle.std.proofs.Common.{◌≡◌, ℕ, ◌+◌, ◌-◌, ◌<◌, ◌≤◌, Bool, true, false, nat_lt, List, [], ◌∷◌, ◌++◌, length, take, drop, min, slice_range, refl, sym, ap, ◌∙◌, subst, append_assoc, arith, rules, length-append, take-append-drop, Ok, Err, Result}
-use Rattle.std.proofs.lemmas.List.{append-nil, nil_from_length, drop_at, take_at}
+use Rattle.std.proofs.Common.{◌≡◌, ℕ, ◌+◌, ◌-◌, ◌<◌, ◌≤◌, Bool, true, false, nat_lt, List, [], ◌∷◌, ◌++◌, length, min, refl, sym, ap, ◌∙◌, subst, append_assoc, arith, rules, length-append, true≢false, Ok, Err, Result}
+use Rattle.std.proofs.lemmas.List.{append-nil, nil_from_length}
 use Rattle.std.specs.Borrow.{Bor}
 use Rattle.fd_pages.specs.declared.cell.CellKind.{CellKind}
 use Rattle.fd_pages.specs.declared.cell.Cell.{Cell}
 use Rattle.fd_pages.specs.declared.fault.PageFault.{PageFault}
 use Rattle.fd_pages.specs.declared.fault.PageFault.TheVariants.{BadPage, NoMemory}
-use Rattle.fd_pages.specs.Pages.{IsPage, IsPageAt, Gives, SeenGives}
+use Rattle.fd_pages.specs.Pages.{BeginsPage, SeenGives}
 use Rattle.fd_footer.specs.declared.footer.Pages.{Pages}
 use Rattle.fd_footer.specs.declared.footer.Column.{Column}
-use Rattle.fd_table_file.specs.Columns.{kind_in}
-use Rattle.fd_parquet.specs.Refusals.{BeginsChunk}
-use Rattle.fd_table_file.specs.Chunks.{ArePages, BeginsPage, BeginsCells}
+use Rattle.fd_table_file.specs.Columns.{kind_in, HasText}
+use Rattle.std.specs.Prelude.{All}
+use Rattle.fd_footer.specs.Tables.{has_dictionary}
+use Rattle.fd_parquet.specs.Refusals.{IsColumn, BeginsChunk}
+use Rattle.fd_table_file.specs.Chunks.{ArePages, AreValuePages, Pieces, plain_pieces, IsBefore, IsData, IsChunk, BeginsCells}
 
 -- cells and the bytes behind them, as they are read
 abbrev pub Read : Type 0
@@ -20,40 +22,47 @@ Read = List Cell × Bor (List ℕ)
 abbrev pub seen : Read → List Cell × List ℕ
 seen r = (r.0, r.1.now)
 
--- ---- a page in front of the bytes, and one at the place 0
+-- ---- a chunk without a dictionary
 
-front_of : (bytes : List ℕ) (end : ℕ) → slice_range bytes 0 end ≡ take end bytes
-front_of bytes end = let e : end - 0 ≡ end = omega arith in ap (λ n. take n bytes) e
+no_dictionary_by : (dictionary : Bool) (cells : List Cell) (bytes : List ℕ) → dictionary ≡ false → IsBefore dictionary cells bytes → bytes ≡ []
+no_dictionary_by false cells bytes e is = is
+no_dictionary_by true cells bytes e is = absurd (true≢false e)
 
-pub page_found : (kind : CellKind) (required : Bool) (count : ℕ) (bytes : List ℕ) (cells : List Cell) (end : ℕ) → IsPageAt kind required count bytes 0 cells end
-    → BeginsPage kind required count bytes cells (drop end bytes)
-page_found kind required count bytes cells end is = record {
-  front = slice_range bytes 0 end;
-  whole = sym (ap (λ xs. xs ++ drop end bytes) (front_of bytes end) ∙ take-append-drop end bytes);
-  counted = is.counted;
-  page = is.page;
-}
+-- a chunk that is read has no dictionary
+pub no_dictionary : (pages : Pages) (f : Column) (count : ℕ) (cells : List Cell) (chunk : Pieces) → IsColumn pages f count cells chunk → chunk.dictionary ≡ []
+no_dictionary pages f count cells chunk is = no_dictionary_by (has_dictionary pages f.column_type) cells chunk.dictionary is.plain is.spelled.before
 
-pub page_placed : (kind : CellKind) (required : Bool) (count : ℕ) (bytes : List ℕ) (cells : List Cell) (rest : List ℕ) → (b : BeginsPage kind required count bytes cells rest)
-    → IsPageAt kind required count bytes 0 cells (length b.front)
-page_placed kind required count bytes cells rest b =
-    let len : length bytes ≡ length b.front + length rest = ap length b.whole ∙ length-append b.front rest in
-    let front : slice_range bytes 0 (length b.front) ≡ b.front = front_of bytes (length b.front) ∙ ap (λ xs. take (length b.front) xs) b.whole ∙ take_at b.front rest (length b.front) refl in
-    record {
-      begin = omega arith;
-      within = omega (arith, len);
-      counted = b.counted;
-      page = subst (λ xs. IsPage kind required cells xs) (sym front) b.page;
-    }
+values_by : (dictionary : Bool) (kind : CellKind) (required : Bool) (cells : List Cell) (bytes : List ℕ) → dictionary ≡ false → IsData dictionary kind required cells bytes → AreValuePages kind required cells bytes
+values_by false kind required cells bytes e is = is
+values_by true kind required cells bytes e is = absurd (true≢false e)
 
-pub rest_is : (kind : CellKind) (required : Bool) (count : ℕ) (bytes : List ℕ) (cells : List Cell) (rest : List ℕ) → (b : BeginsPage kind required count bytes cells rest)
-    → drop (length b.front) bytes ≡ rest
-rest_is kind required count bytes cells rest b = ap (λ xs. drop (length b.front) xs) b.whole ∙ drop_at b.front rest (length b.front) refl
+chunk_by : (dictionary : Bool) (kind : CellKind) (required : Bool) (cells : List Cell) (bytes : List ℕ) → dictionary ≡ false → AreValuePages kind required cells bytes → IsChunk dictionary kind required cells (plain_pieces bytes)
+chunk_by false kind required cells bytes e is = record { before = refl; data_pages = is }
+chunk_by true kind required cells bytes e is = absurd (true≢false e)
 
 -- the cells of a chunk of a column
 pub chunk_cells : (pages : Pages) (f : Column) (count : ℕ) (bytes : List ℕ) (cells : List Cell) (rest : List ℕ) → BeginsChunk pages f count bytes cells rest
     → BeginsCells (kind_in f.column_type) f.required count bytes cells rest
-chunk_cells pages f count bytes cells rest b = record { front = b.front; whole = b.whole; counted = b.is.counted; chunk = b.is.chunk }
+chunk_cells pages f count bytes cells rest b = record {
+  front = b.front.pages;
+  whole = b.whole ∙ ap (λ xs. (xs ++ b.front.pages) ++ rest) (no_dictionary pages f count cells b.front b.is);
+  counted = b.is.counted;
+  data_pages = values_by (has_dictionary pages f.column_type) (kind_in f.column_type) f.required cells b.front.pages b.is.plain b.is.spelled.data_pages;
+}
+
+-- cells that are texts are the chunk of a column
+pub cells_chunk : (pages : Pages) (f : Column) (count : ℕ) (bytes : List ℕ) (cells : List Cell) (rest : List ℕ) → has_dictionary pages f.column_type ≡ false → All (HasText f) cells
+    → BeginsCells (kind_in f.column_type) f.required count bytes cells rest → BeginsChunk pages f count bytes cells rest
+cells_chunk pages f count bytes cells rest plain texts b = record {
+  front = plain_pieces b.front;
+  whole = b.whole;
+  is = record {
+    plain = plain;
+    counted = b.counted;
+    texts = texts;
+    spelled = chunk_by (has_dictionary pages f.column_type) (kind_in f.column_type) f.required cells b.front plain b.data_pages;
+  };
+}
 
 -- ---- the first page of a chunk
 
@@ -90,12 +99,12 @@ first_of kind required left bytes chunk cells rest (front ∷ pages) some whole 
       middle = tail ++ rest;
       split = split;
       page = record { front = page; whole = whole ∙ ap (λ xs. xs ++ rest) spelled ∙ append_assoc page tail rest; counted = size; page = is };
-      others = record { front = tail; whole = refl; counted = omega (arith, len, size); chunk = record { pages = pages; spelled = others } };
+      others = record { front = tail; whole = refl; counted = omega (arith, len, size); data_pages = record { pages = pages; spelled = others } };
     }
 
 first_page : (kind : CellKind) (required : Bool) (left : ℕ) (bytes : List ℕ) (cells : List Cell) (rest : List ℕ) → 0 < left
     → BeginsCells kind required left bytes cells rest → HasFirst kind required left (min left 1000) bytes cells rest
-first_page kind required left bytes cells rest some b = first_of kind required left bytes b.front cells rest b.chunk.pages some b.whole b.counted b.chunk.spelled
+first_page kind required left bytes cells rest some b = first_of kind required left bytes b.front cells rest b.data_pages.pages some b.whole b.counted b.data_pages.spelled
 
 -- ---- the loop over the pages
 
@@ -138,8 +147,8 @@ joined_more kind required left size bytes page behind more end is p b = record {
   front = p.front ++ b.front;
   whole = p.whole ∙ ap (λ xs. p.front ++ xs) b.whole ∙ sym (append_assoc p.front b.front end);
   counted = length-append page more ∙ (let c : length page ≡ size = p.counted in let d : length more ≡ left - size = b.counted in omega (arith, is, c, d));
-  chunk = record {
-    pages = page ∷ b.chunk.pages;
+  data_pages = record {
+    pages = page ∷ b.data_pages.pages;
     spelled = (
       more,
       p.front,
@@ -148,7 +157,7 @@ joined_more kind required left size bytes page behind more end is p b = record {
       refl,
       p.page,
       (λ few. nil_from_length more (let c : length page ≡ size = p.counted in let d : length more ≡ left - size = b.counted in let f : length page < 1000 = few in omega (arith, is, c, d, f))),
-      b.chunk.spelled,
+      b.data_pages.spelled,
     );
   };
 }
@@ -184,13 +193,6 @@ no_page : (fault : PageFault) (x y : List Cell × List ℕ) → SeenGives {X = R
 no_page NoMemory x y e = tt
 no_page BadPage x y e = absurd (search (rules, e))
 
-pub seen_err : {X : Type 0} (fault : PageFault) (x : X) (y : List Cell × List ℕ) → Gives {A = X} (Err fault) (Ok x) → SeenGives {X = Read} {Y = List Cell × List ℕ} seen (Err fault) (Ok y)
-seen_err NoMemory x y e = tt
-seen_err BadPage x y e = absurd (search (rules, e))
-
-pub ok_gives : {A : Type 0} (a b : A) → Gives {A = A} (Ok a) (Ok b) → a ≡ b
-ok_gives a b e = ok_is a b e
-
 -- where no page is in front of the bytes that are left, there is no chunk
 pub pages_refused : (kind : CellKind) (required : Bool) (count size : ℕ) (bytes : List ℕ) (so_far : List Cell) (rest : List ℕ) (fault : PageFault)
     → length so_far < count → size ≡ min (count - length so_far) 1000 → ReadsPages kind required count bytes so_far rest
@@ -206,7 +208,7 @@ pub pages_all : (kind : CellKind) (required : Bool) (count : ℕ) (bytes : List 
 pages_all kind required count bytes so_far rest done reads =
     let e : 0 ≡ count - length so_far = omega (arith, done) in
     subst (λ xs. BeginsCells kind required count bytes xs rest) (append-nil so_far)
-    (reads.joined [] rest (record { front = []; whole = refl; counted = e; chunk = record { pages = []; spelled = (refl, refl) } }))
+    (reads.joined [] rest (record { front = []; whole = refl; counted = e; data_pages = record { pages = []; spelled = (refl, refl) } }))
 
 no_more : (kind : CellKind) (required : Bool) (pages : List (List Cell)) (cells : List Cell) (chunk : List ℕ) → length cells ≡ 0 → ArePages kind required pages cells chunk → chunk ≡ []
 no_more kind required [] cells chunk none are = are.1
@@ -222,7 +224,7 @@ pages_one kind required count bytes so_far rest done reads all end b =
     let g = reads.parted all end b in
     let counted : length g.more ≡ count - length so_far = g.begins.counted in
     let none : length g.more ≡ 0 = omega (arith, counted, done) in
-    let nothing : g.begins.front ≡ [] = no_more kind required g.begins.chunk.pages g.more g.begins.front none g.begins.chunk.spelled in
+    let nothing : g.begins.front ≡ [] = no_more kind required g.begins.data_pages.pages g.more g.begins.front none g.begins.data_pages.spelled in
     let cells : so_far ≡ all = sym (append-nil so_far) ∙ ap (λ xs. so_far ++ xs) (sym (nil_from_length g.more none)) ∙ sym g.split in
     let left : rest ≡ end = g.begins.whole ∙ ap (λ xs. xs ++ end) nothing in
     λ j. Ok (cells j, left j)

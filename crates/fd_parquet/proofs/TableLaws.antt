@@ -5,6 +5,7 @@ use Rattle.fd_kinds.specs.declared.row.Numbered.{Numbered}
 use Rattle.fd_column.specs.Cells.{columns_of}
 use Rattle.fd_column.specs.RowNumbers.{numbered_cmp}
 use Rattle.fd_pages.specs.declared.cell.Cell.{Cell}
+use Rattle.fd_footer.specs.declared.footer.Pages.{Pages}
 use Rattle.fd_footer.specs.declared.footer.Chunk.{Chunk}
 use Rattle.fd_footer.specs.declared.table.FooterTable.{FooterTable}
 use Rattle.fd_footer.specs.Contents.{have_text_names}
@@ -16,10 +17,10 @@ use Rattle.fd_parquet.proofs.LayoutLaws.{names_are_texts}
 
 -- what is known of a footer that tells a table
 abbrev pub TellsItsRows : List ℕ → FooterTable → Type 0
-TellsItsRows footer told = (rows : List Numbered) (lo hi : ℕ) (places : List Chunk) → IsFooterOf footer rows lo hi places → have_text_names (map file_column (columns_of rows)) ≡ true → told ≡ told_of rows lo hi
+TellsItsRows footer told = (pages : Pages) (rows : List Numbered) (lo hi : ℕ) (places : List Chunk) → IsFooterOf pages footer rows lo hi places → have_text_names (map file_column (columns_of rows)) ≡ true → told ≡ told_of pages rows lo hi
 
 pub has_table : (footer : List ℕ) (told : FooterTable) (cells : List (List Cell)) (places : List Chunk) (rows : List Numbered) (lo hi : ℕ) → TellsItsRows footer told
-    → (told.lo ≡ Some lo) × (told.hi ≡ Some hi) × (lo ≤ hi) × (hi < 2 ^ 63) → All (IsWithin lo hi) rows → IsSorted numbered_cmp rows → FitsTable footer cells places rows lo hi
+    → (told.lo ≡ Some lo) × (told.hi ≡ Some hi) × (lo ≤ hi) × (hi < 2 ^ 63) → All (IsWithin lo hi) rows → IsSorted numbered_cmp rows → FitsTable told.pages footer cells places rows lo hi
     → HasTable told cells places footer rows lo hi
 has_table footer told cells places rows lo hi law range within sorted fits = record {
   lowest = range.0;
@@ -28,7 +29,7 @@ has_table footer told cells places rows lo hi law range within sorted fits = rec
   below = range.3;
   names = fits.names;
   are = record {
-    have = record { same = ap (λ (t : FooterTable). t.columns) (law rows lo hi places fits.footer_is (names_are_texts rows fits.names)); each = fits.each };
+    have = record { same = ap (λ (t : FooterTable). t.columns) (law told.pages rows lo hi places fits.footer_is (names_are_texts rows fits.names)); each = fits.each };
     within = within;
     sorted = sorted;
   };
@@ -66,5 +67,5 @@ kept_gives (Ok (Some f)) fits P rows lo hi found none d p = λ i. Some (found.1 
 
 -- the rows that have the cells are the ones that fit
 pub table_fits : (told : FooterTable) (cells : List (List Cell)) (places : List Chunk) (footer : List ℕ) (rows : List Numbered) (lo hi : ℕ) → HasTable told cells places footer rows lo hi
-    → FitsTable footer cells places rows lo hi
+    → FitsTable told.pages footer cells places rows lo hi
 table_fits told cells places footer rows lo hi has = record { each = has.are.have.each; names = has.names; footer_is = has.footer_is }

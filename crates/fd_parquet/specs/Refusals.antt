@@ -1,6 +1,5 @@
 -- Which bytes are refused as a file, and by which fault.
 use Rattle.std.specs.Prelude.{◌≡◌, ℕ, zero, suc, ◌-◌, ◌≤◌, ◌<◌, ◌^◌, ◌⊎◌, true, false, ℤ, pos, negsuc, List, [], ◌∷◌, ◌++◌, length, take, drop, All, Some, None, Result, Ok, Err}
-use Rattle.std.specs.List.{concat}
 use Rattle.fd_kinds.specs.declared.row.Numbered.{Numbered}
 use Rattle.fd_thrift.specs.Values.{Value}
 use Rattle.fd_thrift.specs.Format.{Spells}
@@ -13,8 +12,8 @@ use Rattle.fd_footer.specs.Tables.{has_dictionary}
 use Rattle.fd_footer.specs.Shapes.{has_shape}
 use Rattle.fd_footer.specs.Contents.{table_of}
 use Rattle.fd_table_file.specs.Columns.{kind_in, HasText}
-use Rattle.fd_table_file.specs.Chunks.{IsChunk}
-use Rattle.fd_table_file.specs.Files.{magic, framed, places_from, IsPlainFileOf}
+use Rattle.fd_table_file.specs.Chunks.{Pieces, piece_bytes, IsChunk}
+use Rattle.fd_table_file.specs.Files.{magic, framed, places_from, chunk_bytes, IsFileOf}
 use Rattle.fd_parquet.specs.declared.fault.FileFault.{FileFault}
 use Rattle.fd_parquet.specs.declared.fault.FileFault.TheVariants.{Magic, Footer, Schema, Page, NoMemory}
 
@@ -42,29 +41,29 @@ pub record TellsTable (bytes body : List ℕ) (t : FooterTable) : Type 0 where
   pub told : TellsTree bytes body tree
   pub tabled : table_of tree ≡ Some t
 
--- The bytes are the chunk of these cells of a column: so many, and texts where they are bytes. No pages with a dictionary are read yet.
-pub record IsColumn (pages : Pages) (f : Column) (count : ℕ) (cells : List Cell) (bytes : List ℕ) : Type 0 where
+-- These pieces are the chunk of these cells of a column: so many, and texts where they are bytes. No chunks with a dictionary are read yet.
+pub record IsColumn (pages : Pages) (f : Column) (count : ℕ) (cells : List Cell) (chunk : Pieces) : Type 0 where
   pub plain : has_dictionary pages f.column_type ≡ false
   pub counted : length cells ≡ count
   pub texts : All (HasText f) cells
-  pub chunk : IsChunk (kind_in f.column_type) f.required cells bytes
+  pub spelled : IsChunk (has_dictionary pages f.column_type) (kind_in f.column_type) f.required cells chunk
 
 -- some bytes in front are the chunk of so many cells of a column, and this is the rest
 pub record BeginsChunk (pages : Pages) (f : Column) (count : ℕ) (bytes : List ℕ) (cells : List Cell) (rest : List ℕ) : Type 0 where
-  pub front : List ℕ
-  pub whole : bytes ≡ front ++ rest
+  pub front : Pieces
+  pub whole : bytes ≡ piece_bytes front ++ rest
   pub is : IsColumn pages f count cells front
 
 -- the chunks of columns, one for each
-abbrev pub AreColumns : Pages → ℕ → List Column → List (List Cell) → List (List ℕ) → Type 0
+abbrev pub AreColumns : Pages → ℕ → List Column → List (List Cell) → List Pieces → Type 0
 AreColumns pages count [] [] [] = Unit {0}
 AreColumns pages count (f ∷ fs) (cells ∷ others) (chunk ∷ chunks) = IsColumn pages f count cells chunk × AreColumns pages count fs others chunks
 AreColumns pages count fs cells chunks = ⊥
 
 -- The bytes begin with the chunks of columns, one behind the other, of which the first stands in this place of the file, and all in these. This is the rest.
 pub record BeginsColumns (pages : Pages) (count place : ℕ) (columns : List Column) (bytes : List ℕ) (cells : List (List Cell)) (places : List Chunk) (rest : List ℕ) : Type 0 where
-  pub chunks : List (List ℕ)
-  pub whole : bytes ≡ concat chunks ++ rest
+  pub chunks : List Pieces
+  pub whole : bytes ≡ chunk_bytes chunks ++ rest
   pub are : AreColumns pages count columns cells chunks
   pub placed : places ≡ places_from place chunks
 
@@ -80,8 +79,9 @@ abbrev pub HasAll : Pages → List Column → ℕ → List ℕ → Type 0
 HasAll pages columns count bytes =
     (cells : List (List Cell)) × (places : List Chunk) × (rest : List ℕ) × BeginsColumns pages count (length magic) columns bytes cells places rest
 
+-- the bytes are a file with pages of some kind
 abbrev pub HasFile : List ℕ → Type 0
-HasFile bytes = (rows : List Numbered) × (lo : ℕ) × (hi : ℕ) × IsPlainFileOf bytes rows lo hi
+HasFile bytes = (pages : Pages) × (rows : List Numbered) × (lo : ℕ) × (hi : ℕ) × IsFileOf pages bytes rows lo hi
 
 -- Which column is told: by the count of rows, the first without a chunk, or the number of columns where only the file as a whole is none.
 abbrev pub RefusesPage : List ℕ → List ℕ → FooterTable → ℤ → ℕ → Type 0
@@ -104,7 +104,7 @@ IsRefused fault (Err NoMemory) = Unit {0}
 IsRefused fault answer = answer ≡ Err fault
 
 -- an answer that is seen by `see`: this, unless memory ran out
-abbrev pub Gives : {X Y : Type 0} → (X → Y) → Result X FileFault → Y → Type 0
-Gives see (Ok x) expected = see x ≡ expected
-Gives see (Err NoMemory) expected = Unit {0}
-Gives see (Err fault) expected = ⊥
+abbrev pub Finds : {X Y : Type 0} → (X → Y) → Result X FileFault → Y → Type 0
+Finds see (Ok x) expected = see x ≡ expected
+Finds see (Err NoMemory) expected = Unit {0}
+Finds see (Err fault) expected = ⊥

@@ -1,6 +1,6 @@
 -- The stages of reading a file, and what each answers: its frame, its footer, the cells of its columns, their rows, and the file as a whole.
 use Rattle.std.specs.Prelude.{◌≡◌, ℕ, ◌+◌, ◌≤◌, ◌<◌, ◌^◌, ◌⊎◌, true, false, ℤ, pos, negsuc, List, [], ◌++◌, length, map, take, All, IsUtf8, IsSorted, Some, None, Result, Ok, Err}
-use Rattle.std.specs.List.{concat, AllZip}
+use Rattle.std.specs.List.{AllZip}
 use Rattle.fd_kinds.specs.declared.row.Numbered.{Numbered}
 use Rattle.fd_thrift.specs.Values.{Value}
 use Rattle.fd_thrift.specs.Format.{Spells}
@@ -13,12 +13,11 @@ use Rattle.fd_footer.specs.declared.table.FooterTable.{FooterTable}
 use Rattle.fd_footer.specs.Shapes.{has_shape}
 use Rattle.fd_footer.specs.Contents.{table_of}
 use Rattle.fd_table_file.specs.Columns.{file_column, cells_of, HasText}
-use Rattle.fd_table_file.specs.Chunks.{IsChunkOf}
-use Rattle.fd_table_file.specs.Files.{magic, places_from, footer_at, IsWithin}
+use Rattle.fd_table_file.specs.Chunks.{Pieces, IsChunkOf}
+use Rattle.fd_table_file.specs.Files.{magic, places_from, chunk_bytes, footer_at, IsWithin}
 use Rattle.fd_footer.specs.Footers.{footer_bytes, IsWritable}
 use Rattle.fd_column.specs.RowNumbers.{numbered_cmp}
 use Rattle.fd_column.specs.Cells.{columns_of, column_names}
-use Rattle.fd_footer.specs.declared.footer.Pages.TheVariants.{Plain}
 use Rattle.fd_parquet.specs.declared.fault.FileFault.{FileFault}
 use Rattle.fd_parquet.specs.declared.fault.FileFault.TheVariants.{Magic, Footer, Schema, Page, NoMemory}
 use Rattle.fd_parquet.specs.Refusals.{HasMagic, Holds, BeginsColumns, FailsAt, HasAll}
@@ -63,16 +62,16 @@ pub record HaveTexts (columns : List Column) (cells : List (List Cell)) : Type 0
   pub texts : AllZip (λ f cells. All (HasText f) cells) columns cells
   pub fit : All (All Fits) cells
 
--- the footer of these rows is written, with these places of their chunks
-pub record IsFooterOf (footer : List ℕ) (rows : List Numbered) (lo hi : ℕ) (places : List Chunk) : Type 0 where
-  pub writable : IsWritable (footer_at rows lo hi places)
-  pub spelled : footer ≡ footer_bytes (footer_at rows lo hi places)
+-- the footer of these rows is written, with such pages and these places of their chunks
+pub record IsFooterOf (pages : Pages) (footer : List ℕ) (rows : List Numbered) (lo hi : ℕ) (places : List Chunk) : Type 0 where
+  pub writable : IsWritable (footer_at pages rows lo hi places)
+  pub spelled : footer ≡ footer_bytes (footer_at pages rows lo hi places)
 
 -- these are the cells of the rows, and their footer spells these bytes
-pub record FitsTable (footer : List ℕ) (cells : List (List Cell)) (places : List Chunk) (rows : List Numbered) (lo hi : ℕ) : Type 0 where
+pub record FitsTable (pages : Pages) (footer : List ℕ) (cells : List (List Cell)) (places : List Chunk) (rows : List Numbered) (lo hi : ℕ) : Type 0 where
   pub each : cells ≡ map (λ c. cells_of c rows) (columns_of rows)
   pub names : All IsUtf8 (column_names rows)
-  pub footer_is : IsFooterOf footer rows lo hi places
+  pub footer_is : IsFooterOf pages footer rows lo hi places
 
 -- Rows that make up the file of a footer: their cells and their range are these, and their footer spells these bytes.
 pub record HasTable (told : FooterTable) (cells : List (List Cell)) (places : List Chunk) (footer : List ℕ) (rows : List Numbered) (lo hi : ℕ) : Type 0 where
@@ -82,7 +81,7 @@ pub record HasTable (told : FooterTable) (cells : List (List Cell)) (places : Li
   pub below : hi < 2 ^ 63
   pub names : All IsUtf8 (column_names rows)
   pub are : AreRows told.columns cells lo hi rows
-  pub footer_is : IsFooterOf footer rows lo hi places
+  pub footer_is : IsFooterOf told.pages footer rows lo hi places
 
 -- the bytes are the footer with this tree, which tells this table
 pub record TellsOf (footer : List ℕ) (v : Value) (t : FooterTable) : Type 0 where
@@ -114,8 +113,8 @@ TellsOrRefuses v (Err NoMemory) = Unit {0}
 TellsOrRefuses v (Err fault) = ⊥
 
 -- what the footer of these rows tells
-abbrev pub told_of : List Numbered → ℕ → ℕ → FooterTable
-told_of rows lo hi = record { pages = Plain; lo = Some lo; hi = Some hi; rows = pos (length rows); columns = map file_column (columns_of rows) }
+abbrev pub told_of : Pages → List Numbered → ℕ → ℕ → FooterTable
+told_of pages rows lo hi = record { pages = pages; lo = Some lo; hi = Some hi; rows = pos (length rows); columns = map file_column (columns_of rows) }
 
 -- why bytes have no chunks and no footer
 abbrev pub IsFrameFault : List ℕ → FileFault → Type 0
@@ -123,19 +122,19 @@ IsFrameFault bytes Magic = HasMagic bytes → ⊥
 IsFrameFault bytes Footer = HasMagic bytes × ((body footer : List ℕ) → Holds bytes body footer → ⊥)
 IsFrameFault bytes fault = ⊥
 
--- these are the chunks and the footer of the file of these rows
-pub record AreParts (body footer : List ℕ) (rows : List Numbered) (lo hi : ℕ) : Type 0 where
+-- these are the chunks and the footer of the file of these rows with such pages
+pub record AreParts (pages : Pages) (body footer : List ℕ) (rows : List Numbered) (lo hi : ℕ) : Type 0 where
   pub range : lo ≤ hi
   pub below : hi < 2 ^ 63
   pub within : All (IsWithin lo hi) rows
   pub sorted : IsSorted numbered_cmp rows
-  pub chunks : List (List ℕ)
-  pub spelled : AllZip (IsChunkOf rows) (columns_of rows) chunks
-  pub body_is : body ≡ concat chunks
-  pub footer_is : IsFooterOf footer rows lo hi (places_from (length magic) chunks)
+  pub chunks : List Pieces
+  pub spelled : AllZip (IsChunkOf pages rows) (columns_of rows) chunks
+  pub body_is : body ≡ chunk_bytes chunks
+  pub footer_is : IsFooterOf pages footer rows lo hi (places_from (length magic) chunks)
 
 abbrev pub HasParts : List ℕ → List ℕ → Type 0
-HasParts body footer = (rows : List Numbered) × (lo : ℕ) × (hi : ℕ) × AreParts body footer rows lo hi
+HasParts body footer = (pages : Pages) × (rows : List Numbered) × (lo : ℕ) × (hi : ℕ) × AreParts pages body footer rows lo hi
 
 -- The same as `RefusesPage`, of the chunks and the footer.
 abbrev pub RefusesParts : List ℕ → List ℕ → FooterTable → ℤ → ℕ → Type 0

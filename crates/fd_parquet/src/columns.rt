@@ -2,8 +2,8 @@ ghost use Rattle.std.specs.Prelude.{◌≡◌, ◌≤◌, ◌+◌, ◌-◌, ℕ,
 ghost use Rattle.fd_pages.specs.declared.cell.Cell.{Cell as AnyCell};
 ghost use Rattle.fd_pages.specs.Pages.{SeenGives};
 ghost use Rattle.fd_footer.specs.declared.footer.Chunk.{Chunk as AnyChunk};
-ghost use Rattle.fd_table_file.specs.Files.{magic, chunk_at};
-ghost use Rattle.fd_parquet.specs.Refusals.{BeginsChunk, BeginsColumns, FailsAt, IsRefused, Gives};
+ghost use Rattle.fd_table_file.specs.Files.{magic, plain_chunk_at};
+ghost use Rattle.fd_parquet.specs.Refusals.{BeginsChunk, BeginsColumns, FailsAt, IsRefused, Finds};
 ghost use Rattle.fd_parquet.specs.Stages.{IsFailure};
 
 use crate::FileFault;
@@ -12,7 +12,7 @@ use crate::pages::chunk_in;
 use fd_footer::{Chunk, Chunks, Column, Pages, has_dictionary};
 use fd_kinds::Items;
 use fd_pages::{CellList, PageFault};
-use fd_table_file::kind_in;
+use fd_table_file::{chunks_are_placed, kind_in};
 use std::alloc::Global;
 
 /// The cells of columns that were read, and where their chunks stand in the file.
@@ -62,12 +62,13 @@ fn fault_at(column: usize, fault: PageFault) -> FileFault
     }
 }
 
-/// Where a chunk stands in the file: it begins with `rest`, and ends before `behind`.
+/// Where a chunk without a dictionary stands in the file: it begins with `rest`, and ends before
+/// `behind`.
 fn placed(bytes: &[u8], rest: &[u8], behind: &[u8]) -> Chunk
     requires begin { length rest.now ≤ length bytes.now }
     requires end { length behind.now ≤ length rest.now }
     ensures { result
-        ≡ chunk_at (4 + (length bytes.now - length rest.now))
+        ≡ plain_chunk_at (4 + (length bytes.now - length rest.now))
         (length rest.now - length behind.now) }
 {
     let place = FIRST_PLACE + (bytes.len() - rest.len()) as u64;
@@ -91,12 +92,13 @@ pub(crate) fn columns_in<'a>(
         r.0.cells r.0.places r.1.now) }
     ensures only { (cells : List (List AnyCell)) (places : List AnyChunk) (rest : List ℕ)
         → BeginsColumns pages count (length magic) columns.now bytes.now cells places rest
-        → Gives {Y = (List (List AnyCell) × List AnyChunk) × List ℕ}
+        → Finds {Y = (List (List AnyCell) × List AnyChunk) × List ℕ}
         (λ r. ((r.0.cells, r.0.places), r.1.now)) result ((cells, places), rest) }
     ensures fails { IfErr result (IsFailure pages columns.now count bytes.now) }
     ensures fails_only { (k : ℕ) → FailsAt pages columns.now count bytes.now k
         → IsRefused (FileFault.Page k) result }
 {
+    chunks_are_placed();
     let mut cells = Items::new(alloc);
     let mut places = Items::new(alloc);
     let mut rest = bytes;

@@ -6,9 +6,9 @@ ghost use Rattle.fd_parquet.specs.Rows.{behind as behind_prefix, pair_of, pairs_
 
 use crate::frame::behind;
 use crate::rows::bytes_at;
-use fd_column::text_of;
+use crate::texts::text_of;
 use fd_footer::Column;
-use fd_kinds::{Items, Labels, NoMemory, Pair, Pairs};
+use fd_kinds::{Items, Labels, NoMemory, Pair, Pairs, Shared};
 use fd_pages::CellList;
 use std::alloc::Global;
 
@@ -62,15 +62,15 @@ fn pairs_at(
 
 /// The labels of these pairs. Pairs that are out of order give none.
 #[tactic(auto, using(crate::proofs::PairLaws::labels_there, crate::proofs::PairLaws::no_labels))]
-fn labels_of(pairs: Pairs) -> Labels
-    ensures { result ≡ labels_from pairs }
+fn labels_of(pairs: Pairs) -> Result<Labels, NoMemory>
+    ensures { IfOk result (λ labels. labels ≡ labels_from pairs) }
 {
     let alloc = pairs.allocator();
-    match Labels::checked(pairs) {
-        Some(labels) => labels,
-        None => Labels {
-            pairs: Items::new(alloc),
-        },
+    match Labels::checked(Shared::of(pairs)?) {
+        Some(labels) => Ok(labels),
+        None => Ok(Labels {
+            pairs: Shared::new(alloc),
+        }),
     }
 }
 
@@ -84,5 +84,5 @@ pub(crate) fn labels_at(
 ) -> Result<Labels, NoMemory>
     ensures { IfOk result (λ labels. labels ≡ labels_in prefix.now columns.now cells.now at) }
 {
-    Ok(labels_of(pairs_at(alloc, columns, prefix, cells, at)?))
+    labels_of(pairs_at(alloc, columns, prefix, cells, at)?)
 }

@@ -1,28 +1,11 @@
 ghost use Rattle.std.specs.Prelude.{◌≡◌, ◌++◌, ℕ, List, IfOk, Ok};
 ghost use Rattle.fd_pages.specs.declared.cell.Cell.{Cell as AnyCell};
 ghost use Rattle.fd_pages.specs.Pages.{SeenGives};
-ghost use Rattle.fd_table_file.specs.Chunks.{BeginsPage, BeginsCells};
+ghost use Rattle.fd_table_file.specs.Chunks.{BeginsCells};
 
 use fd_kinds::{Items, NoMemory};
-use fd_pages::{CellKind, CellList, MAX_ROWS, PageFault, read_page};
+use fd_pages::{CellKind, CellList, MAX_ROWS, PageFault, read_first_page};
 use std::alloc::Global;
-
-/// The cells of the page of `count` cells in front of the bytes, and the bytes behind it.
-fn page_in(
-    alloc: Global,
-    bytes: &[u8],
-    kind: CellKind,
-    required: bool,
-    count: usize,
-) -> Result<(CellList, &[u8]), PageFault>
-    ensures found { IfOk result (λ r. BeginsPage kind required count bytes.now r.0 r.1.now) }
-    ensures only { (cells : List AnyCell) (rest : List ℕ)
-        → BeginsPage kind required count bytes.now cells rest
-        → SeenGives {Y = List AnyCell × List ℕ} (λ r. (r.0, r.1.now)) result (Ok (cells, rest)) }
-{
-    let (page, end) = read_page(alloc, bytes, 0, kind, required, count)?;
-    Ok((page.cells, &bytes[end..]))
-}
 
 /// The cells and more behind them.
 fn with_cells(cells: CellList, more: CellList) -> Result<CellList, NoMemory>
@@ -50,7 +33,7 @@ pub(crate) fn chunk_in(
     let mut rest = bytes;
     while cells.len() < count {
         let size = (count - cells.len()).min(MAX_ROWS);
-        let (more, behind) = page_in(alloc, rest, kind, required, size)?;
+        let (more, behind) = read_first_page(alloc, rest, kind, required, size)?;
         cells = with_cells(cells, more)?;
         rest = behind;
     }

@@ -3,12 +3,14 @@ ghost use Rattle.fd_kinds.specs.declared.row.Numbered.{Numbered};
 ghost use Rattle.fd_column.specs.Cells.{columns_of};
 ghost use Rattle.fd_footer.specs.Footers.{IsPlaced};
 ghost use Rattle.fd_footer.specs.Tables.{total_size};
-ghost use Rattle.fd_table_file.specs.Files.{IsPlainFileOf};
+ghost use Rattle.fd_table_file.specs.Files.{IsFileOf};
 ghost use Rattle.fd_footer.specs.declared.footer.Chunk.{Chunk as AnyChunk};
+ghost use Rattle.fd_footer.specs.declared.footer.Pages.{Pages as AnyPages};
+ghost use Rattle.fd_footer.specs.declared.footer.Pages.TheVariants.{Plain};
 ghost use Rattle.fd_footer.specs.declared.table.FooterTable.{FooterTable as AnyTable};
 ghost use Rattle.fd_footer.specs.Contents.{have_text_names};
 ghost use Rattle.fd_table_file.specs.Columns.{file_column};
-ghost use Rattle.fd_parquet.specs.Refusals.{Refuses, IsRefused, Gives};
+ghost use Rattle.fd_parquet.specs.Refusals.{Refuses, IsRefused, Finds};
 ghost use Rattle.fd_parquet.specs.Stages.{HasTable, FitsTable, TellsOf, told_of, IsRead, IsFooterOf, AreParts, RefusesParts, IsPartsFault, IsFooterFault, TellsOrRefuses};
 ghost use Rattle.fd_thrift.specs.Values.{Value};
 ghost use Rattle.fd_thrift.specs.Format.{Spells};
@@ -20,7 +22,7 @@ use crate::frame::parts_of;
 use crate::rows::part_of;
 use fd_column::{ColumnPart, Columns};
 use fd_footer::{
-    Chunks, FooterFault, FooterTable, footers_are_read, footers_are_spelled, read_footer,
+    Chunks, FooterFault, FooterTable, Pages, footers_are_read, footers_are_spelled, read_footer,
     write_footer,
 };
 use fd_kinds::NoMemory;
@@ -37,7 +39,7 @@ pub struct FileTable {
     pub hi: u64,
 }
 
-/// So many columns and more want memory.
+/// A footer has fewer columns, each of which takes two bytes of it at least.
 const TOO_MANY_COLUMNS: usize = 0x8000_0000;
 
 /// Numbers are below this.
@@ -60,7 +62,9 @@ fn range_of(told: &FooterTable) -> Option<(u64, u64)>
 
 /// What a footer tells.
 fn told_by(alloc: Global, footer: &[u8]) -> Result<FooterTable, FileFault>
+    requires { length footer.now < 2 ^ 32 }
     ensures told { IfOk result (λ told. (v : Value) × TellsOf footer.now v told) }
+    ensures few { IfOk result (λ told. length told.columns < 2 ^ 31) }
     ensures refused { IfErr result (IsFooterFault footer.now) }
     ensures only { (v : Value) → Spells footer.now v → TellsOrRefuses v result }
 {
@@ -90,25 +94,27 @@ fn are_same(one: &[u8], other: &[u8]) -> bool
     one == other
 }
 
-/// Whether these bytes are the footer of a table with these places of its chunks. 2^31 columns or
-/// more want memory.
+/// Whether these bytes are the footer of a table with such pages and these places of its chunks.
 fn has_footer(
     alloc: Global,
+    pages: Pages,
     table: &ColumnPart,
     lo: u64,
     hi: u64,
     places: Chunks,
     footer: &[u8],
 ) -> Result<bool, NoMemory>
+    requires few { length (columns_of table.now) < 2 ^ 31 }
     requires chunks { length places ≡ length (columns_of table.now) }
     requires placed { All IsPlaced places }
     requires small { total_size places < 2 ^ 63 }
     requires rows { length table.now < 2 ^ 63 }
-    ensures { IfOk result (λ has. Decides has (IsFooterOf footer.now table.now lo hi places)) }
+    ensures { IfOk result
+        (λ has. Decides has (IsFooterOf pages footer.now table.now lo hi places)) }
 {
-    let told = footer_of(alloc, table, lo, hi, places)?;
+    let told = footer_of(alloc, pages, table, lo, hi, places)?;
     if told.columns.len() >= TOO_MANY_COLUMNS {
-        return Err(NoMemory);
+        unreachable!()
     }
     let expected = write_footer(alloc, &told)?;
     Ok(are_same(expected.as_slice(), footer))
@@ -116,19 +122,21 @@ fn has_footer(
 
 /// A footer that tells a table tells that of the rows whose footer it is.
 fn footers_tell_their_rows()
-    ensures { (footer : List ℕ) (v : Value) (told : AnyTable)
+    ensures { (footer : List ℕ) (v : Value) (told : AnyTable) (pages : AnyPages)
         (rows : List Numbered) (lo hi : ℕ) (places : List AnyChunk)
-        → TellsOf footer v told → IsFooterOf footer rows lo hi places → length footer < 2 ^ 32
-        → have_text_names (map file_column (columns_of rows)) ≡ true → told ≡ told_of rows lo hi }
+        → TellsOf footer v told → IsFooterOf pages footer rows lo hi places
+        → length footer < 2 ^ 32 → have_text_names (map file_column (columns_of rows)) ≡ true
+        → told ≡ told_of pages rows lo hi }
 {
     one_spelling();
     footers_are_read();
     footers_are_spelled();
 }
 
-/// Whether a table has these cells and this footer. 2^31 columns or more want memory.
+/// Whether a table has these cells and this footer, which tells such pages.
 fn fits_table(
     alloc: Global,
+    pages: Pages,
     table: &ColumnPart,
     lo: u64,
     hi: u64,
@@ -136,18 +144,19 @@ fn fits_table(
     places: Chunks,
     footer: &[u8],
 ) -> Result<bool, NoMemory>
+    requires few { length cells.now < 2 ^ 31 }
     requires chunks { length places ≡ length cells.now }
     requires placed { All IsPlaced places }
     requires small { total_size places < 2 ^ 63 }
     requires rows { length table.now < 2 ^ 63 }
     ensures { IfOk result
-        (λ fits. Decides fits (FitsTable footer.now cells.now places table.now lo hi)) }
+        (λ fits. Decides fits (FitsTable pages footer.now cells.now places table.now lo hi)) }
 {
     if !has_cells(table, cells) {
         return Ok(false);
     }
     table.utf8();
-    has_footer(alloc, table, lo, hi, places, footer)
+    has_footer(alloc, pages, table, lo, hi, places, footer)
 }
 
 /// The table where it is kept.
@@ -179,6 +188,7 @@ fn table_of(
 ) -> Result<Option<FileTable>, NoMemory>
     requires told { (v : Value) × TellsOf footer.now v told.now }
     requires short { length footer.now < 2 ^ 32 }
+    requires few { length told.now.columns < 2 ^ 31 }
     requires read { IsRead told.now count read.cells read.places }
     // A table has these cells, the range and the footer.
     ensures found { IfOk result
@@ -201,7 +211,16 @@ fn table_of(
     let Some(table) = part_of(alloc, columns, cells.as_slice(), count, lo, hi)? else {
         return Ok(None);
     };
-    let fits = fits_table(alloc, &table, lo, hi, cells.as_slice(), places, footer);
+    let fits = fits_table(
+        alloc,
+        told.pages,
+        &table,
+        lo,
+        hi,
+        cells.as_slice(),
+        places,
+        footer,
+    );
     kept(table, lo, hi, fits)
 }
 
@@ -214,10 +233,13 @@ fn file_of(
 ) -> Result<FileTable, FileFault>
     requires told { (v : Value) × TellsOf footer.now v told.now }
     requires short { length footer.now < 2 ^ 32 }
-    requires few { 4 + length body.now < 2 ^ 63 }
-    ensures found { IfOk result (λ file. AreParts body.now footer.now file.table file.lo file.hi) }
-    ensures only { (rows : List Numbered) (lo hi : ℕ) → AreParts body.now footer.now rows lo hi
-        → Gives {Y = List Numbered × ℕ × ℕ}
+    requires few { length told.now.columns < 2 ^ 31 }
+    requires within { 4 + length body.now < 2 ^ 63 }
+    ensures found { IfOk result
+        (λ file. AreParts Plain body.now footer.now file.table file.lo file.hi) }
+    ensures only { (rows : List Numbered) (lo hi : ℕ)
+        → AreParts Plain body.now footer.now rows lo hi
+        → Finds {Y = List Numbered × ℕ × ℕ}
         (λ file. (file.table, file.lo, file.hi)) result (rows, lo, hi) }
     ensures refused { IfErr result (IsPartsFault body.now footer.now told.now) }
     ensures refused_only { (k : ℕ) → RefusesParts body.now footer.now told.now told.now.rows k
@@ -247,11 +269,11 @@ fn file_of(
 /// it, and refuses other bytes by the first fault that holds (`FileFault`). No count, length or
 /// place that the bytes claim makes it take memory: each page and text has to be there.
 pub fn read_file(alloc: Global, bytes: &[u8]) -> Result<FileTable, FileFault>
-    // What is read has this file.
-    ensures found { IfOk result (λ file. IsPlainFileOf bytes.now file.table file.lo file.hi) }
-    // The table of each file is read, unless memory runs out.
-    ensures only { (rows : List Numbered) (lo hi : ℕ) → IsPlainFileOf bytes.now rows lo hi
-        → Gives {Y = List Numbered × ℕ × ℕ}
+    // What is read has this file, with plain pages.
+    ensures found { IfOk result (λ file. IsFileOf Plain bytes.now file.table file.lo file.hi) }
+    // The table of each file with plain pages is read, unless memory runs out.
+    ensures only { (rows : List Numbered) (lo hi : ℕ) → IsFileOf Plain bytes.now rows lo hi
+        → Finds {Y = List Numbered × ℕ × ℕ}
         (λ file. (file.table, file.lo, file.hi)) result (rows, lo, hi) }
     // Other bytes are refused by the one fault that is theirs, unless memory runs out.
     ensures refused { IfErr result (λ fault. fault ≢ FileFault.NoMemory → Refuses bytes.now fault) }

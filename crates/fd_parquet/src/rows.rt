@@ -5,13 +5,14 @@ ghost use Rattle.fd_table_file.specs.Files.{IsWithin};
 ghost use Rattle.fd_parquet.specs.Stages.{AreRows, HaveTexts, BuildsRows};
 ghost use Rattle.fd_parquet.specs.Rows.{cell_in, cell_number, cell_bytes, text_in, row_in, MayFollow};
 ghost use Rattle.fd_column.specs.RowNumbers.{numbered_cmp};
-ghost use Rattle.fd_column.specs.Stacks.{frames_of};
+ghost use Rattle.fd_column.specs.Stacks.{AreShort, frames_of};
 
 use crate::labels::labels_at;
 use crate::row_builder::RowBuilder;
-use fd_column::{ColumnPart, read_stack, text_of};
+use crate::texts::{stack_of, text_of};
+use fd_column::ColumnPart;
 use fd_footer::Column;
-use fd_kinds::{Items, NoMemory, Numbered, Row, Stack, Text};
+use fd_kinds::{NoMemory, Numbered, Row, Stack, Text};
 use fd_pages::{Cell, CellList};
 use std::alloc::Global;
 
@@ -54,17 +55,19 @@ fn text_at(alloc: Global, cells: &[CellList], column: usize, at: usize) -> Resul
 
 /// The stack of a row.
 fn stack_at(alloc: Global, cells: &[CellList], column: usize, at: usize) -> Result<Stack, NoMemory>
-    ensures { IfOk result (λ stack. stack ≡ frames_of (text_in cells.now column at)) }
+    ensures frames { IfOk result (λ stack. stack ≡ frames_of (text_in cells.now column at)) }
+    ensures short { IfOk result AreShort }
 {
     match bytes_at(cells, column, at) {
-        Some(bytes) => read_stack(alloc, bytes),
-        None => Ok(Items::new(alloc)),
+        Some(bytes) => stack_of(alloc, bytes),
+        None => Ok(Stack::new(alloc)),
     }
 }
 
 /// The row at a place.
 fn row_at(alloc: Global, columns: &[Column], cells: &[CellList], at: usize) -> Result<Row, NoMemory>
-    ensures { IfOk result (λ row. row ≡ row_in columns.now cells.now at) }
+    ensures row { IfOk result (λ row. row ≡ row_in columns.now cells.now at) }
+    ensures short { IfOk result (λ row. AreShort row.stack) }
 {
     Ok(Row {
         name: text_at(alloc, cells, 1, at)?,
@@ -83,7 +86,7 @@ fn row_at(alloc: Global, columns: &[Column], cells: &[CellList], at: usize) -> R
 }
 
 /// The number of a row's batch, none where it is out of the range.
-fn number_at(cells: &[CellList], at: usize, lo: u64, hi: u64) -> Option<u64>
+fn batch_number_at(cells: &[CellList], at: usize, lo: u64, hi: u64) -> Option<u64>
     ensures found { IfSome result (λ n. cell_number (cell_in cells.now 0 at) ≡ pos n) }
     ensures range { IfSome result (λ n. (lo ≤ n) × (n ≤ hi)) }
     ensures only { (n : ℕ) → cell_number (cell_in cells.now 0 at) ≡ pos n → lo ≤ n → n ≤ hi
@@ -111,11 +114,12 @@ fn numbered_at(
         (λ next. IfSome next (λ n. cell_number (cell_in cells.now 0 at) ≡ pos n.number)) }
     ensures within { IfOk result (λ next. IfSome next (IsWithin lo hi)) }
     ensures row { IfOk result (λ next. IfSome next (λ n. n.row ≡ row_in columns.now cells.now at)) }
+    ensures short { IfOk result (λ next. IfSome next (λ n. AreShort n.row.stack)) }
     ensures none { IfOk result
         (λ next. next ≡ None → (n : ℕ) → cell_number (cell_in cells.now 0 at) ≡ pos n → lo ≤ n
         → n ≤ hi → ⊥) }
 {
-    let Some(number) = number_at(cells, at, lo, hi) else {
+    let Some(number) = batch_number_at(cells, at, lo, hi) else {
         return Ok(None);
     };
     let row = row_at(alloc, columns, cells, at)?;
@@ -145,9 +149,10 @@ fn rows_in(
         let Some(next) = numbered_at(alloc, columns, cells, at, lo, hi)? else {
             return Ok(None);
         };
-        let Some(more) = rows.with_next(next)? else {
+        if !rows.may_take(&next) {
             return Ok(None);
-        };
+        }
+        let more = rows.with_last(next)?;
         rows = more;
     }
     Ok(Some(rows))

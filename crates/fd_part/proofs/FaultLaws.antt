@@ -2,10 +2,10 @@
 use Rattle.std.proofs.Common.{Result, Ok, Err, ap}
 use Rattle.fd_parquet.specs.declared.fault.FileFault.{FileFault}
 use Rattle.fd_parquet.specs.declared.fault.FileFault.TheVariants.{Magic, Footer, Schema, Page, NoMemory}
-use Rattle.fd_parquet.specs.Refusals.{Gives, IsRefused}
+use Rattle.fd_parquet.specs.Refusals.{Finds, IsRefused}
 
 -- a fault is no answer to a file, whatever is seen of the answer
-pub gives_fault : {X Y U V : Type 0} (see : X → Y) (other : U → V) (fault : FileFault) (y : Y) (v : V) → Gives see (Err fault) y → Gives other (Err fault) v
+pub gives_fault : {X Y U V : Type 0} (see : X → Y) (other : U → V) (fault : FileFault) (y : Y) (v : V) → Finds see (Err fault) y → Finds other (Err fault) v
 gives_fault see other Magic y v h = h
 gives_fault see other Footer y v h = h
 gives_fault see other Schema y v h = h

@@ -1,6 +1,8 @@
-ghost use Rattle.std.specs.Prelude.{◌≡◌, ◌<◌, ◌^◌, [], ◌∷◌, ◌++◌, length, IfOk, IsSorted};
+ghost use Rattle.std.specs.Prelude.{◌≡◌, ◌<◌, ◌^◌, [], ◌∷◌, ◌++◌, length, IfOk, IsSorted, All};
+ghost use Rattle.fd_kinds.specs.History.{IsSmall};
 ghost use Rattle.fd_kinds.specs.Parts.{with_number, rows_of};
 ghost use Rattle.fd_kinds.specs.RowOrder.{row_cmp};
+ghost use Rattle.fd_column.specs.Stacks.{AreShort};
 ghost use Rattle.fd_part.specs.Sizes.{bytes_of};
 
 use fd_column::{ColumnPart, Columns, PartBuilder};
@@ -41,6 +43,7 @@ fn sum_of(rows: &[Row]) -> u64
 
 /// The rows, each with the number 0.
 fn numbered_rows(alloc: Global, rows: &[Row]) -> Result<PartBuilder, NoMemory>
+    requires { All (λ row. AreShort row.stack) rows.now }
     ensures { IfOk result (λ builder. builder ≡ with_number 0 rows.now) }
 {
     let mut builder = PartBuilder::new(alloc);
@@ -52,7 +55,8 @@ fn numbered_rows(alloc: Global, rows: &[Row]) -> Result<PartBuilder, NoMemory>
 
 /// The columns of the rows, which are in order, with the number 0.
 fn columns_of(alloc: Global, rows: &[Row]) -> Result<ColumnPart, NoMemory>
-    requires { IsSorted row_cmp rows.now }
+    requires sorted { IsSorted row_cmp rows.now }
+    requires short { All (λ row. AreShort row.stack) rows.now }
     ensures { IfOk result (λ columns. columns ≡ with_number 0 rows.now) }
 {
     let builder = numbered_rows(alloc, rows)?;
@@ -62,6 +66,7 @@ fn columns_of(alloc: Global, rows: &[Row]) -> Result<ColumnPart, NoMemory>
 impl BatchColumns {
     /// The rows of the batch, which stays as it is.
     pub fn of(batch: &Batch) -> Result<BatchColumns, NoMemory>
+        requires { IsSmall batch.now.rows }
         ensures { IfOk result (λ columns. columns ≡ batch.now.rows) }
     {
         let rows = batch.rows.as_slice();

@@ -1,10 +1,11 @@
 ghost use Rattle.std.specs.Prelude.{◌≡◌, ◌≢◌, ◌≤◌, ◌<◌, ◌^◌, ◌↔◌, ℕ, true, List, [], ◌∷◌, All};
 ghost use Rattle.std.specs.Prelude.{is_some, IfOk, IfErr, IfSome, IsTrue};
 ghost use Rattle.fd_kinds.specs.declared.row.Numbered.{Numbered};
+ghost use Rattle.fd_kinds.specs.History.{IsSmall as IsSmallBatch};
 ghost use Rattle.fd_kinds.specs.Parts.{IsWithin, loose_part, rows_of};
 ghost use Rattle.fd_footer.specs.declared.footer.Pages.TheVariants.{Plain};
 ghost use Rattle.fd_table_file.specs.Files.{IsSmall, IsFileOf};
-ghost use Rattle.fd_parquet.specs.Refusals.{Refuses, IsRefused, Gives};
+ghost use Rattle.fd_parquet.specs.Refusals.{Refuses, IsRefused, Finds};
 ghost use Rattle.fd_parquet.specs.declared.fault.FileFault.{FileFault as AnyFault};
 ghost use Rattle.fd_shelf.specs.Books.{Each, HasSmallBatches};
 ghost use Rattle.fd_shelf.specs.Histories.{batch_at};
@@ -42,6 +43,7 @@ pub struct Part {
 impl Part {
     /// The loose part of a batch that has no number yet. The batch stays as it is.
     pub fn of(batch: &Batch) -> Result<Part, NoMemory>
+        requires { IsSmallBatch batch.now.rows }
         ensures { IfOk result (λ part. part_meaning part ≡ loose_part 0 batch.now.rows) }
     {
         let columns = BatchColumns::of(batch)?;
@@ -52,6 +54,7 @@ impl Part {
 
     /// The loose part of a batch that has no number yet and is let go.
     pub fn fresh(batch: Batch) -> Result<Part, NoMemory>
+        requires { IsSmallBatch batch.rows }
         ensures { IfOk result (λ part. part_meaning part ≡ loose_part 0 batch.rows) }
     {
         Part::of(&batch)
@@ -91,7 +94,7 @@ impl Part {
         // Each file of a table is opened, unless memory runs out.
         ensures only { (rows : List Numbered) (lo hi : ℕ)
             → IsFileOf Plain file rows lo hi
-            → Gives part_meaning result (sealed_part lo hi rows) }
+            → Finds part_meaning result (sealed_part lo hi rows) }
         // Other bytes are refused by the one fault that is theirs, unless memory runs out.
         ensures refused { IfErr result (λ fault. fault ≢ FileFault.NoMemory → Refuses file fault) }
         ensures refused_only { (fault : AnyFault) → Refuses file fault → IsRefused fault result }

@@ -40,7 +40,7 @@ fn address_text(alloc: Global, address: u64) -> Result<Text, NoMemory>
 {
     let mut text = String::from_str(alloc, "0x")?;
     push_hex(&mut text, 16, address)?;
-    Ok(Text::from_string(text))
+    Text::from_string(text)
 }
 
 /// The name of a function, and none where it has no text.
@@ -79,7 +79,7 @@ fn add_frames(
     of: &Catalog,
     texts: &Texts,
     location: &RawLocation,
-    all: &mut Stack,
+    all: &mut Texts,
 ) -> Result<(), NoMemory>
     ensures { OnOk result (all.new ≡ all.old ++ location_frames texts.now of.now.raw location.now) }
 {
@@ -92,13 +92,13 @@ fn add_frames(
     Ok(())
 }
 
-/// The frames of a sample, the leaf first.
-pub(crate) fn stack_of(
+/// The frames of a sample, the leaf first, as a list that grew.
+fn frames_of(
     alloc: Global,
     of: &Catalog,
     texts: &Texts,
     sample: &RawSample,
-) -> Result<Stack, NoMemory>
+) -> Result<Texts, NoMemory>
     ensures { IfOk result (λ frames. frames ≡ stack texts.now of.now.raw sample.now) }
 {
     let mut all = Items::new(alloc);
@@ -109,4 +109,16 @@ pub(crate) fn stack_of(
         }
     }
     Ok(all)
+}
+
+/// The frames of a sample, the leaf first.
+pub(crate) fn stack_of(
+    alloc: Global,
+    of: &Catalog,
+    texts: &Texts,
+    sample: &RawSample,
+) -> Result<Stack, NoMemory>
+    ensures { IfOk result (λ frames. frames ≡ stack texts.now of.now.raw sample.now) }
+{
+    Stack::of(frames_of(alloc, of, texts, sample)?)
 }

@@ -15,7 +15,7 @@ fn words_of<R: Env + AllocGlobal>(rt: &R) -> Result<Texts, NoMemory> {
     match env::args(rt) {
         Ok(arguments) => {
             for word in arguments.skip(1) {
-                words.push(Text::from_string(word))?;
+                words.push(Text::from_string(word)?)?;
             }
         }
         Err(error) => {

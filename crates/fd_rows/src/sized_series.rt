@@ -3,7 +3,7 @@ ghost use Rattle.fd_kinds.specs.RowSize.{row_size};
 ghost use Rattle.fd_rows.specs.Sizes.{held, series_size};
 
 use crate::series::Series;
-use fd_kinds::{Items, Labels, NoMemory, Row, Share, Text, row_bytes};
+use fd_kinds::{Labels, NoMemory, Row, Share, Shared, Text, row_bytes};
 use std::alloc::Global;
 
 /// A series, and the bytes of a row of it whose other parts are empty.
@@ -18,7 +18,7 @@ fn no_labels(alloc: Global) -> Labels
     ensures { result.pairs ≡ [] }
 {
     Labels {
-        pairs: Items::new(alloc),
+        pairs: Shared::new(alloc),
     }
 }
 
@@ -34,7 +34,7 @@ fn plain_row(alloc: Global, series: &Series) -> Result<Row, NoMemory>
         period_unit: Text::new(alloc),
         labels: series.labels.share()?,
         timestamp: 0,
-        stack: Items::new(alloc),
+        stack: Shared::new(alloc),
         pprof_labels: no_labels(alloc),
         period: 0,
         duration: 0,

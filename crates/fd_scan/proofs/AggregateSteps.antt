@@ -8,8 +8,8 @@ use Rattle.fd_kinds.specs.declared.query.Query.TheVariants as query
 use Rattle.fd_scan.specs.declared.aggregate.Groups.TheVariants as groups
 use Rattle.fd_kinds.specs.Meaning.{label_names, label_values}
 use Rattle.fd_scan.specs.declared.label_values.LabelValues.{LabelValues}
-use Rattle.fd_scan.specs.declared.sums.Sums.{Sums}
-use Rattle.fd_scan.specs.Groups.{AreRanges, AreSums}
+use Rattle.fd_groups.specs.declared.sums.Sums.{Sums}
+use Rattle.fd_groups.specs.Groups.{AreRanges, AreSums}
 use Rattle.fd_scan.specs.Aggregates.{AreGroups}
 
 -- What holds of ranges holds of the groups of any query for ranges. The rows become those that `f` gives.

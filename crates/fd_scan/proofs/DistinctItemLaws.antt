@@ -2,15 +2,14 @@
 use Rattle.std.proofs.Common.{rules, ◌≡◌, true, List, [], ◌∷◌, ◌++◌, map, sym, ◌∙◌, ap, subst, Some}
 use Rattle.std.specs.Prelude.{Option, IfSome}
 use Rattle.std.specs.declared.cmp.Ordering.{Ordering}
-use Rattle.std.specs.Cmp.{IsTotalOrder, then_total, on_total, bool_cmp_total}
-use Rattle.std.specs.Cmp.Lexicographic.{nat_list_cmp_total}
+use Rattle.std.specs.Cmp.{IsTotalOrder, then_total, on_total, back_total, bool_cmp_total}
+use Rattle.std.specs.Cmp.Lexicographic.{nat_list_cmp_total, lists_total}
 use Rattle.std.proofs.lemmas.List.{map-append}
 use Rattle.fd_kinds.specs.declared.row.Row.{Row}
 use Rattle.fd_kinds.specs.Meaning.{type_cmp, series_cmp}
-use Rattle.fd_scan.proofs.LabelKeys.{labels_cmp_total}
 use Rattle.std.specs.List.{list_any}
 use Rattle.std.specs.BTreeMap.{is_at}
-use Rattle.fd_scan.specs.DistinctItems.{AreDistinct}
+use Rattle.fd_groups.specs.DistinctItems.{AreDistinct}
 use Rattle.fd_kinds.proofs.Distinct.{distinct_present}
 
 module _ {T : Type 0} {R : T → T → Ordering} (o : IsTotalOrder R) where
@@ -32,4 +31,4 @@ pub type_cmp_total : IsTotalOrder type_cmp
 type_cmp_total = search (rules, then_total, on_total, nat_list_cmp_total, bool_cmp_total) depth 30
 
 pub series_cmp_total : IsTotalOrder series_cmp
-series_cmp_total = search (rules, then_total, on_total, nat_list_cmp_total, labels_cmp_total) depth 30
+series_cmp_total = search (rules, then_total, on_total, back_total, lists_total, nat_list_cmp_total) depth 30

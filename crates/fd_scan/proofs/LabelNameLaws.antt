@@ -9,6 +9,7 @@ use Rattle.std.specs.BTreeMap.{is_at}
 use Rattle.std.specs.Ordering.{is_eq}
 use Rattle.std.specs.Cmp.{Equal-is}
 use Rattle.std.specs.Cmp.Lexicographic.{nat_list_cmp_total}
+use Rattle.std.specs.FinMap.{IsAntisymmetric, slice_cmp-IsAntisymmetric, nat_cmp-IsAntisymmetric}
 use Rattle.fd_kinds.specs.declared.pair.Pair.{Pair}
 use Rattle.fd_kinds.specs.declared.row.Row.{Row}
 use Rattle.fd_kinds.specs.declared.row.Numbered.{Numbered}
@@ -20,9 +21,10 @@ use Rattle.fd_scan.specs.RowPlaces.{row_at, rows_at, empty_row}
 use Rattle.fd_scan.specs.LabelNames.{any_cell, label_of, label_at, occurs, where_there, where_occurs, where_found, column_label, column_labels}
 use Rattle.fd_scan.proofs.CellValues.{label_cell_read}
 use Rattle.fd_scan.proofs.LabelColumns.{label_there}
-use Rattle.fd_kinds.proofs.Distinct.{any_distinct, sorted_distinct}
-use Rattle.fd_scan.proofs.GroupLaws.{same_members}
-use Rattle.fd_scan.proofs.LabelKeys.{same_text}
+use Rattle.fd_kinds.proofs.Distinct.{any_distinct}
+
+same_text : IsAntisymmetric text_cmp
+same_text = slice_cmp-IsAntisymmetric nat_cmp-IsAntisymmetric
 
 abbrev any : List ℕ → List (List ℕ) → Bool
 any q names = list_any (is_at (text_cmp q)) names
@@ -146,15 +148,13 @@ any_columns rows places q =
     (λ h. occurs_any rows places q h)
 
 -- the labels by the columns are the names of the rows
-pub names_more : (rows : List Numbered) (places : List ℕ) (before : List Row) → distinct text_cmp (flat_map row_names before ++ column_labels rows places (column_names rows)) ≡ label_names (before ++ rows_at rows places)
-names_more rows places before =
-    same_members nat_list_cmp_total same_text (distinct text_cmp (items ++ columns)) (distinct text_cmp (items ++ names))
-    (sorted_distinct nat_list_cmp_total (items ++ columns)) (sorted_distinct nat_list_cmp_total (items ++ names))
+pub names_more : (rows : List Numbered) (places : List ℕ) (before : List Row) → (IsAntisymmetric text_cmp → (xs ys : List (List ℕ)) → ((q : List ℕ) → any q xs ≡ any q ys) → distinct text_cmp xs ≡ distinct text_cmp ys) → distinct text_cmp (flat_map row_names before ++ column_labels rows places (column_names rows)) ≡ label_names (before ++ rows_at rows places)
+names_more rows places before same =
+    same same_text (items ++ columns) (items ++ names)
     (λ q.
-    any_distinct nat_list_cmp_total q (items ++ columns)
-    ∙ list_any-append (is_at (text_cmp q)) items columns
+    list_any-append (is_at (text_cmp q)) items columns
     ∙ ap (λ b. any q items || b) (any_columns rows places q ∙ sym (any_rows rows q places))
-    ∙ sym (any_distinct nat_list_cmp_total q (items ++ names) ∙ list_any-append (is_at (text_cmp q)) items names))
+    ∙ sym (list_any-append (is_at (text_cmp q)) items names))
     ∙ ap (distinct text_cmp) (sym (flat_map-append row_names before (rows_at rows places)))
   where
     items : List (List ℕ)

@@ -14,7 +14,7 @@ use Rattle.fd_column.specs.Cells.{column_texts}
 use Rattle.fd_column.specs.Stacks.{stack_bytes, frames_of, AreShort}
 use Rattle.fd_column.proofs.StackLaws.{frames_of_stack}
 use Rattle.fd_scan.specs.RowPlaces.{row_at}
-use Rattle.fd_scan.specs.Groups.{KeepsSlots}
+use Rattle.fd_groups.specs.Groups.{KeepsSlots}
 use Rattle.fd_scan.specs.StackSlots.{KnowsSlots, known_slot, noted}
 use Rattle.fd_scan.proofs.LookupLaws.{same_place}
 

@@ -9,8 +9,8 @@ use Rattle.fd_kinds.specs.Meaning.{is_within, is_selected, filtered_rows, kept_r
 use Rattle.fd_scan.specs.declared.aggregate.Gathered.{Gathered}
 use Rattle.fd_scan.specs.declared.aggregate.Groups.{Groups}
 use Rattle.fd_scan.specs.declared.aggregate.Groups.TheVariants as groups
-use Rattle.fd_scan.specs.Groups.{AreSums, AreRanges}
-use Rattle.fd_scan.specs.DistinctItems.{AreDistinct}
+use Rattle.fd_groups.specs.Groups.{AreSums, AreRanges}
+use Rattle.fd_groups.specs.DistinctItems.{AreDistinct}
 
 -- whether the window keeps the row, and the filter where there is one
 abbrev pub is_filtered : Option Selector → Window → Row → Bool

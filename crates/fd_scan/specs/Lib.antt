@@ -1,10 +1,8 @@
-pub mod Additions
 pub mod Aggregates
-pub mod DistinctItems
 pub mod DistinctTexts
-pub mod Groups
 pub mod LabelNames
 pub mod LabelledPlaces
+pub mod LastSeries
 pub mod Removals
 pub mod RowPlaces
 pub mod StackSlots

@@ -1,4 +1,4 @@
-ghost use Rattle.std.specs.Prelude.{◌≡◌, ◌<◌, true, length, IfOk, Decides};
+ghost use Rattle.std.specs.Prelude.{◌≡◌, ◌<◌, true, length, IfOk, IsUtf8, Decides};
 ghost use Rattle.fd_column.specs.Cells.{column_texts, is_text_column};
 ghost use Rattle.fd_scan.specs.RowPlaces.{row_at, text_of, has_text};
 
@@ -20,6 +20,7 @@ pub fn text_column<C: Columns>(columns: &C, column: usize) -> &Dictionary
 
 /// A copy of the text of a cell, the empty one where it is absent.
 fn cell_text(alloc: Global, cells: &Dictionary, at: usize) -> Result<Text, NoMemory>
+    requires { IsUtf8 (text_of cells.now at) }
     ensures { IfOk result (λ text. text ≡ text_of cells.now at) }
 {
     match cells.cell(at) {
@@ -35,17 +36,19 @@ pub fn text_at<C: Columns>(
     column: usize,
     at: usize,
 ) -> Result<Text, NoMemory>
-    requires { is_text_column (C.rows columns.now) column ≡ true }
+    requires kind { is_text_column (C.rows columns.now) column ≡ true }
+    requires utf8 { IsUtf8 (text_of (column_texts (C.rows columns.now) column) at) }
     ensures { IfOk result (λ text. text ≡ text_of (column_texts (C.rows columns.now) column) at) }
 {
     cell_text(alloc, text_column(columns, column), at)
 }
 
 /// A copy of a row's name.
-#[tactic(auto, using(crate::proofs::CellValues::name_read))]
+#[tactic(auto, using(crate::proofs::CellValues::name_read, crate::proofs::RowTexts::name_text))]
 pub fn name_at<C: Columns>(alloc: Global, columns: &C, at: usize) -> Result<Text, NoMemory>
     ensures { IfOk result (λ text. text ≡ (row_at (C.rows columns.now) at).name) }
 {
+    columns.utf8();
     text_at(alloc, columns, NAME, at)
 }
 

@@ -1,4 +1,4 @@
-ghost use Rattle.std.specs.Prelude.{◌≡◌, ◌++◌, ◌∷◌, [], List, ℕ, is_some, OnOk, OnErr};
+ghost use Rattle.std.specs.Prelude.{◌≡◌, ◌++◌, ◌∷◌, [], List, ℕ, is_some, OnOk, OnErr, IsUtf8};
 ghost use Rattle.std.specs.Option.{option_copied};
 ghost use Rattle.fd_kinds.specs.declared.row.Row.{Row};
 ghost use Rattle.fd_kinds.specs.Meaning.{distinct, label_names};
@@ -12,6 +12,7 @@ ghost use Rattle.fd_scan.specs.Removals.{undone};
 
 use crate::cells::text_column;
 use fd_column::{Columns, Dictionary, text_of};
+use fd_groups::distinct_laws;
 use fd_kinds::{Items, NoMemory, Share, Text, Texts};
 use std::alloc::Global;
 use std::collections::BTreeSet;
@@ -85,6 +86,7 @@ fn add_where_there(
     places: &[usize],
     name: &[u8],
 ) -> Result<(), NoMemory>
+    requires { IsUtf8 name.now }
     ensures ok { OnOk result (
         (items : List (List ℕ)) → names.old.keys ≡ distinct text_cmp items
         → names.new.keys ≡ distinct text_cmp (items ++ where_there cells.now places.now name.now)) }
@@ -114,6 +116,7 @@ fn add_column_label<C: Columns>(
 {
     match label_at(columns, column) {
         Some(name) => {
+            columns.utf8();
             let cells = text_column(columns, column);
             add_where_there(names, noted, cells, places, name)
         }
@@ -154,6 +157,7 @@ pub fn add_names_of<C: Columns>(
         → names.new.keys ≡ label_names (rows ++ rows_at (C.rows columns.now) places.now)) }
     ensures err { OnErr result (names.new.keys ≡ names.old.keys) }
 {
+    distinct_laws::<Text>();
     let mut noted = Items::new(alloc);
     match add_column_labels(names, &mut noted, columns, places) {
         Ok(()) => Ok(()),

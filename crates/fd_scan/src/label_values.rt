@@ -38,6 +38,7 @@ impl LabelValues {
     {
         match columns.label_column(&self.name) {
             Some(column) => {
+                columns.utf8();
                 let cells = text_column(columns, column);
                 add_texts_at(alloc, &mut self.found, cells, places)
             }

@@ -3,20 +3,15 @@
 
 mod aggregate;
 mod cells;
-mod distinct_items;
 mod label_names;
 mod label_values;
-mod laws;
 mod lookup;
 mod matchers;
 mod ranges;
 mod selection;
 mod series;
-mod sets;
 mod stacks;
-mod sums;
 mod texts;
 mod types;
 
 pub use aggregate::{Gathered, scan};
-pub use laws::distinct_laws;

@@ -3,7 +3,8 @@ ghost use Rattle.std.specs.Prelude.{OnOk, OnErr, IfOk, IfSome, Decides, Some, No
 ghost use Rattle.fd_kinds.specs.declared.row.Row.{Row};
 ghost use Rattle.fd_kinds.specs.Meaning.{series_of, series_cmp};
 ghost use Rattle.fd_scan.specs.RowPlaces.{row_at, rows_at};
-ghost use Rattle.fd_scan.specs.DistinctItems.{AreDistinct, last_series};
+ghost use Rattle.fd_groups.specs.DistinctItems.{AreDistinct};
+ghost use Rattle.fd_scan.specs.LastSeries.{last_series};
 
 use crate::cells::{has_same_labels, has_same_name, labels_at, name_at};
 use fd_column::Columns;

@@ -1,14 +1,14 @@
 ghost use Rattle.std.specs.Prelude.{◌≡◌, ◌<◌, ◌++◌, ◌∷◌, [], ℕ, List, All, length, take, None};
 ghost use Rattle.std.specs.Prelude.{IfOk, OnOk, OnErr, slice_index_or};
 ghost use Rattle.fd_kinds.specs.declared.row.Row.{Row};
-ghost use Rattle.fd_scan.specs.Groups.{AreSums};
+ghost use Rattle.fd_groups.specs.Groups.{AreSums};
 ghost use Rattle.fd_scan.specs.StackSlots.{KnowsSlots, known_slot, noted};
 ghost use Rattle.fd_scan.specs.RowPlaces.{row_at, rows_at};
 
 use crate::cells::{stack_at, text_column, value_at};
-use crate::sums::Sums;
 use fd_column::Columns;
 use fd_column::places::STACK;
+use fd_groups::Sums;
 use fd_kinds::NoMemory;
 use std::alloc::Global;
 

@@ -1,11 +1,12 @@
 ghost use Rattle.std.specs.Prelude.{◌≡◌, ◌++◌, ℕ, List, false, take, slice_index_or};
-ghost use Rattle.std.specs.Prelude.{IfOk, OnOk, OnErr};
+ghost use Rattle.std.specs.Prelude.{IfOk, IfSome, OnOk, OnErr, IsUtf8};
+ghost use Rattle.fd_dictionary.specs.Dictionaries.{cell_in};
 ghost use Rattle.fd_kinds.specs.Meaning.{distinct};
 ghost use Rattle.fd_lists.specs.Texts.{text_cmp};
 ghost use Rattle.fd_scan.specs.DistinctTexts.{SeesTexts, is_seen, seen_more, text_at, texts_at};
 
-use crate::sets::add_copy;
 use fd_column::{Dictionary, text_of};
+use fd_groups::add_copy;
 use fd_kinds::{NoMemory, Text};
 use std::alloc::Global;
 use std::collections::BTreeSet;
@@ -56,6 +57,7 @@ fn add_cell(
     cells: &Dictionary,
     at: usize,
 ) -> Result<(), NoMemory>
+    requires { IfSome (cell_in cells.now at) IsUtf8 }
     ensures ok { OnOk result (
         (items : List (List ℕ)) → found.old.keys ≡ distinct text_cmp items
         → found.new.keys ≡ distinct text_cmp (items ++ text_at cells.now at)) }
@@ -75,6 +77,7 @@ fn add_once(
     cells: &Dictionary,
     at: usize,
 ) -> Result<(), NoMemory>
+    requires { IfSome (cell_in cells.now at) IsUtf8 }
     ensures ok { OnOk result (
         (items : List (List ℕ)) → SeesTexts cells.now found.old.keys seen.old.items items
         → SeesTexts cells.now found.new.keys seen.new.items (items ++ text_at cells.now at)) }
@@ -97,6 +100,7 @@ pub fn add_texts_at(
     cells: &Dictionary,
     places: &[usize],
 ) -> Result<(), NoMemory>
+    requires { (at : ℕ) → IfSome (cell_in cells.now at) IsUtf8 }
     ensures ok { OnOk result (
         (items : List (List ℕ)) → found.old.keys ≡ distinct text_cmp items
         → found.new.keys ≡ distinct text_cmp (items ++ texts_at cells.now places.now)) }

@@ -5,12 +5,12 @@ ghost use Rattle.fd_kinds.specs.Meaning.{type_of, type_cmp, is_of_type};
 ghost use Rattle.std.specs.Ordering.{int_eq};
 ghost use Rattle.fd_column.specs.Cells.{column_texts};
 ghost use Rattle.fd_scan.specs.RowPlaces.{row_at, rows_at, has_text, has_texts};
-ghost use Rattle.fd_scan.specs.DistinctItems.{AreDistinct};
+ghost use Rattle.fd_groups.specs.DistinctItems.{AreDistinct};
 
 use crate::cells::{duration_at, has_cell, text_at, text_column};
-use crate::distinct_items::DistinctItems;
 use fd_column::Columns;
 use fd_column::places::{NAME, PERIOD_TYPE, PERIOD_UNIT, SAMPLE_TYPE, SAMPLE_UNIT};
+use fd_groups::DistinctItems;
 use fd_kinds::{NoMemory, ProfileType};
 use std::alloc::Global;
 
@@ -47,10 +47,12 @@ fn is_delta_at<C: Columns>(columns: &C, at: usize) -> bool
 }
 
 /// A copy of the profile type of the row at a place.
+#[tactic(auto, using(crate::proofs::RowTexts::name_text, crate::proofs::RowTexts::sample_type_text, crate::proofs::RowTexts::sample_unit_text, crate::proofs::RowTexts::period_type_text, crate::proofs::RowTexts::period_unit_text))]
 fn type_at<C: Columns>(alloc: Global, columns: &C, at: usize) -> Result<ProfileType, NoMemory>
     requires { at < length (C.rows columns.now) }
     ensures { IfOk result (λ kind. kind ≡ type_of (row_at (C.rows columns.now) at)) }
 {
+    columns.utf8();
     Ok(ProfileType {
         name: text_at(alloc, columns, NAME, at)?,
         sample_type: text_at(alloc, columns, SAMPLE_TYPE, at)?,

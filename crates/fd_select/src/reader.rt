@@ -32,9 +32,9 @@ pub(crate) struct Reader {
     pub(crate) stage: Stage,
 }
 
-fn text_of(bytes: Bytes) -> Text
+fn text_of(bytes: Bytes) -> Result<Text, NoMemory>
     requires { IsUtf8 bytes }
-    ensures { result ≡ bytes }
+    ensures { IfOk result (λ text. text ≡ bytes) }
 {
     Text::from_string(String::from_utf8(bytes.into_vec()).unwrap())
 }
@@ -119,9 +119,9 @@ impl Reader {
     {
         let mut matchers = matchers;
         matchers.push(Matcher {
-            name: text_of(name),
+            name: text_of(name)?,
             op,
-            value: text_of(value),
+            value: text_of(value)?,
         })?;
         Ok(Reader::at(matchers, Stage::Matched))
     }

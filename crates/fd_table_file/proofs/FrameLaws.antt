@@ -4,7 +4,7 @@ use Rattle.std.specs.Int.{w32, to_le_bytes, from_le_bytes}
 use Rattle.std.proofs.lemmas.Nat.{from_le_bytes-to_le_bytes_4}
 use Rattle.std.proofs.lemmas.List.{append_cancel_left}
 use Rattle.fd_table_file.specs.Files.{magic, framed}
-use Rattle.fd_table_file.proofs.OneChunk.{split_same}
+use Rattle.fd_table_file.proofs.OneDataPages.{split_same}
 
 -- what stands behind the footer
 abbrev pub ending : List ℕ → List ℕ

@@ -5,6 +5,6 @@ pub mod ColumnPlaces
 pub mod Comparisons
 pub mod FrameLaws
 pub mod OneChunk
-pub mod OneDictionaryChunk
+pub mod OneDataPages
 pub mod OneFile
 pub mod OneTable

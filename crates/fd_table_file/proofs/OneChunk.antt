@@ -1,113 +1,162 @@
--- Cells have one page and one chunk, and no bytes are the chunks of two lists of cells.
-use Rattle.std.proofs.Common.{◌≡◌, ℕ, ◌+◌, ◌<◌, ◌≤◌, Bool, true, false, List, [], ◌∷◌, ◌++◌, length, map, take, drop, refl, sym, ap, ◌∙◌, subst, arith, length-append}
+-- Columns of rows have one chunk of each kind, and no pieces are the chunks of two lists of cells.
+use Rattle.std.proofs.Common.{◌≡◌, ℕ, zero, suc, ◌+◌, ◌<◌, ◌^◌, Bool, true, false, List, [], ◌∷◌, ◌++◌, length, drop, Some, slice_get, refl, sym, ap, ◌∙◌, subst, arith, length-append}
 use Rattle.std.specs.Prelude.{All}
-use Rattle.std.proofs.lemmas.List.{append_cancel_left, take_at, drop_at}
-use Rattle.std.proofs.lemmas.List.Elements.{All-append, All-nil}
-use Rattle.fd_hybrid.specs.Format.{IsSpelling}
+use Rattle.std.specs.List.{AllByRecursion, AllZip, flat_map}
+use Rattle.std.proofs.lemmas.List.Elements.{All-nil, All-from_recursion, recursion_from_All}
+use Rattle.fd_kinds.specs.declared.row.Numbered.{Numbered}
+use Rattle.fd_column.specs.Cells.{Column}
 use Rattle.fd_pages.specs.declared.cell.CellKind.{CellKind}
+use Rattle.fd_pages.specs.declared.cell.CellKind.TheVariants.{Bytes as BytesKind}
 use Rattle.fd_pages.specs.declared.cell.Cell.{Cell}
-use Rattle.fd_pages.specs.Columns.{Fits, sized, plain_values, level}
-use Rattle.fd_pages.specs.Pages.{header_bytes, max_rows, IsBody, IsPage}
-use Rattle.fd_table_file.specs.Chunks.{AreFilled, IsChunk}
+use Rattle.fd_pages.specs.declared.cell.Cell.TheVariants.{Absent, Whole, Bytes}
+use Rattle.fd_pages.specs.Columns.{IsOfColumn, Fits}
+use Rattle.fd_pages.specs.Dictionaries.{AreRising, IsDictionary, texts_in, AreIndexes, IsCodeBody, IsCodePage}
+use Rattle.fd_footer.specs.declared.footer.Pages.{Pages}
+use Rattle.fd_footer.specs.declared.footer.Chunk.{Chunk}
+use Rattle.fd_footer.specs.Tables.{has_dictionary}
+use Rattle.fd_table_file.specs.Columns.{type_of, kind_of, is_required, cells_of}
+use Rattle.fd_table_file.specs.Chunks.{AreFilled, dictionary_of, Pieces, piece_bytes, IsBefore, IsData, IsChunk, IsChunkOf}
+use Rattle.fd_table_file.specs.Files.{places_from, chunk_bytes}
+use Rattle.fd_table_file.proofs.OneDataPages.{OneRuns, OnePage, AreSized, one_run_of, one_cells_of, filled_fits, one_value_pages, one_cells, values_fit, split_same}
 
--- what is known of runs and of pages
-abbrev pub OneRuns : Type 0
-OneRuns = (w : ℕ) (values a b : List ℕ) → IsSpelling w values a → IsSpelling w values b → a ≡ b
+-- what is known of dictionaries and of pages with indexes
+abbrev pub OneDictionary : Type 0
+OneDictionary = (texts others : List (List ℕ)) (a b x y : List ℕ) → IsDictionary texts a → IsDictionary others b → a ++ x ≡ b ++ y → (texts ≡ others) × (a ≡ b)
 
-abbrev pub OnePage : Type 0
-OnePage = (kind : CellKind) (required : Bool) (cells others : List Cell) (a b x y : List ℕ)
-    → IsPage kind required cells a → IsPage kind required others b → a ++ x ≡ b ++ y → (cells ≡ others) × (a ≡ b)
+abbrev pub OneCodePage : Type 0
+OneCodePage = (required : Bool) (texts : List (List ℕ)) (cells others : List Cell) (a b x y : List ℕ)
+    → IsCodePage required texts cells a → IsCodePage required texts others b → a ++ x ≡ b ++ y → (cells ≡ others) × (a ≡ b)
 
-pub split_same : {X : Type 0} (f g x y : List X) → f ++ x ≡ g ++ y → length f ≡ length g → (f ≡ g) × (x ≡ y)
-split_same f g x y e len = (
-  sym (take_at f x (length f) refl) ∙ ap (λ xs. take (length f) xs) e ∙ take_at g y (length f) (sym len),
-  sym (drop_at f x (length f) refl) ∙ ap (λ xs. drop (length f) xs) e ∙ drop_at g y (length f) (sym len),
-)
+abbrev pub OneCoding : Type 0
+OneCoding = (required : Bool) (texts : List (List ℕ)) (cells : List Cell) (a b : List ℕ) → AreRising texts → IsCodePage required texts cells a → IsCodePage required texts cells b → a ≡ b
 
--- ---- one page
+sized_codes : (required : Bool) (texts : List (List ℕ)) → AreSized (IsCodePage required texts)
+sized_codes required texts cells page is = (is.some, is.few)
 
-one_body : OneRuns → (required : Bool) (cells : List Cell) (a b : List ℕ) → IsBody required cells a → IsBody required cells b → a ≡ b
-one_body one_runs true cells a b p q = p ∙ sym q
-one_body one_runs false cells a b (runs, spelled, whole) (others, spelled', whole') =
-    whole ∙ ap (λ (rs : List ℕ). sized rs ++ plain_values cells) (one_runs 1 (map level cells) runs others spelled spelled') ∙ sym whole'
+-- ---- one chunk
 
-one_page_of : OneRuns → (kind : CellKind) (required : Bool) (cells : List Cell) (a b : List ℕ) → IsPage kind required cells a → IsPage kind required cells b → a ≡ b
-one_page_of one_runs kind required cells a b p q =
-    p.whole
-    ∙ ap (λ (body : List ℕ). header_bytes (length cells) (length body) ++ body) (one_body one_runs required cells p.body q.body p.spelled q.spelled)
-    ∙ sym q.whole
+one_before : (dictionary : Bool) (cells : List Cell) (a b : List ℕ) → IsBefore dictionary cells a → IsBefore dictionary cells b → a ≡ b
+one_before false cells a b p q = p ∙ sym q
+one_before true [] a b p q = p ∙ sym q
+one_before true (cell ∷ cells) a b p q = p.whole ∙ sym q.whole
 
--- the first pages of the same cells have as many cells
-same_count : (f g x y : List Cell) → f ++ x ≡ g ++ y → length f ≤ max_rows → length g ≤ max_rows → (length f < max_rows → x ≡ []) → (length g < max_rows → y ≡ []) → length f ≡ length g
-same_count f g x y e few few' full full' =
-    by (length f) (length g) (length x) (length y) (sym (length-append f x) ∙ ap length e ∙ length-append g y) few few'
-    (λ lt. ap length (full lt)) (λ lt. ap length (full' lt))
-  where
-    by : (f g x y : ℕ) → f + x ≡ g + y → f ≤ 1000 → g ≤ 1000 → (f < 1000 → x ≡ 0) → (g < 1000 → y ≡ 0) → f ≡ g
-    by f g x y e few few' full full' = grind arith
+none_filled : (Is : List Cell → List ℕ → Type 0) → AreSized Is → (pages : List (List Cell)) (bytes : List ℕ) → AreFilled Is pages [] bytes → bytes ≡ []
+none_filled Is sized [] bytes (none, p) = p
+none_filled Is sized (f ∷ pages) bytes (x, page, rest, e, whole, is, full, more) = absurd (omega (arith, (sized f page is).0, length-append f x, ap length e))
 
--- ---- pages of any kind
+one_data : OneRuns → OneCoding → (dictionary : Bool) (kind : CellKind) (required : Bool) (cells : List Cell) (before a b : List ℕ) → IsBefore dictionary cells before
+    → IsData dictionary kind required cells a → IsData dictionary kind required cells b → a ≡ b
+one_data one_runs one_coding false kind required cells before a b is p q = one_value_pages one_runs kind required cells a b p q
+one_data one_runs one_coding true kind required [] before a b is p q =
+    none_filled (IsCodePage required (dictionary_of [])) (sized_codes required (dictionary_of [])) p.pages a p.spelled
+    ∙ sym (none_filled (IsCodePage required (dictionary_of [])) (sized_codes required (dictionary_of [])) q.pages b q.spelled)
+one_data one_runs one_coding true kind required (cell ∷ cells) before a b is p q =
+    let texts : List (List ℕ) = dictionary_of (cell ∷ cells) in
+    one_run_of (IsCodePage required texts) (sized_codes required texts) (λ front x y page page'. one_coding required texts front x y is.rising page page') p.pages q.pages (cell ∷ cells) a b p.spelled q.spelled
 
--- each page has as many cells as a page may have
-abbrev pub AreSized : (List Cell → List ℕ → Type 0) → Type 0
-AreSized Is = (cells : List Cell) (page : List ℕ) → Is cells page → (0 < length cells) × (length cells ≤ max_rows)
+one_chunk : OneRuns → OneCoding → (dictionary : Bool) (kind : CellKind) (required : Bool) (cells : List Cell) (x y : Pieces) → IsChunk dictionary kind required cells x → IsChunk dictionary kind required cells y → x ≡ y
+one_chunk one_runs one_coding dictionary kind required cells x y p q =
+    let first : x.dictionary ≡ y.dictionary = one_before dictionary cells x.dictionary y.dictionary p.before q.before in
+    let second : x.pages ≡ y.pages = one_data one_runs one_coding dictionary kind required cells x.dictionary x.pages y.pages p.before p.data_pages q.data_pages in
+    λ i. record { dictionary = first i; pages = second i }
 
--- cells have one page
-abbrev pub HaveOne : (List Cell → List ℕ → Type 0) → Type 0
-HaveOne Is = (cells : List Cell) (a b : List ℕ) → Is cells a → Is cells b → a ≡ b
+-- a column of rows has one chunk
+pub one_pieces : OneRuns → OneCoding → (pages : Pages) (rows : List Numbered) (c : Column) (x y : Pieces) → IsChunkOf pages rows c x → IsChunkOf pages rows c y → x ≡ y
+one_pieces one_runs one_coding pages rows c x y p q =
+    one_chunk one_runs one_coding (has_dictionary pages (type_of c)) (kind_of c) (is_required c) (cells_of c rows) x y p.chunk q.chunk
 
--- no page is that of two lists of cells, and none begins another
-abbrev pub TellCells : (List Cell → List ℕ → Type 0) → Type 0
-TellCells Is = (cells others : List Cell) (a b x y : List ℕ) → Is cells a → Is others b → a ++ x ≡ b ++ y → (cells ≡ others) × (a ≡ b)
+-- ---- no chunk of two lists of cells
 
-pub one_chunk_of : (Is : List Cell → List ℕ → Type 0) → AreSized Is → HaveOne Is → (pages others : List (List Cell)) (cells : List Cell) (a b : List ℕ)
-    → AreFilled Is pages cells a → AreFilled Is others cells b → a ≡ b
-one_chunk_of Is sized one [] [] cells a b (none, p) (none', q) = p ∙ sym q
-one_chunk_of Is sized one [] (g ∷ others) cells a b (none, p) (y, page', rest', e', whole', is', full', more') =
-    absurd (omega (arith, (sized g page' is').0, length-append g y, ap length (sym e' ∙ none)))
-one_chunk_of Is sized one (f ∷ pages) [] cells a b (x, page, rest, e, whole, is, full, more) (none, q) =
-    absurd (omega (arith, (sized f page is).0, length-append f x, ap length (sym e ∙ none)))
-one_chunk_of Is sized one (f ∷ pages) (g ∷ others) cells a b (x, page, rest, e, whole, is, full, more) (y, page', rest', e', whole', is', full', more') =
-    let parts = split_same f g x y (sym e ∙ e') (same_count f g x y (sym e ∙ e') (sized f page is).1 (sized g page' is').1 full full') in
-    let pages_same : page ≡ page' = one f page page' is (subst (λ (cs : List Cell). Is cs page') (sym parts.0) is') in
-    let rests : rest ≡ rest' = one_chunk_of Is sized one pages others x rest rest' more (subst (λ (cs : List Cell). AreFilled Is others cs rest') (sym parts.1) more') in
-    whole ∙ ap (λ (bytes : List ℕ). bytes ++ rest) pages_same ∙ ap (λ (bytes : List ℕ). page' ++ bytes) rests ∙ sym whole'
+one_texts : OneDictionary → (cells others : List Cell) (dictionary : List ℕ) → length cells ≡ length others → IsBefore true cells dictionary → IsBefore true others dictionary → dictionary_of cells ≡ dictionary_of others
+one_texts one_dictionary [] [] dictionary len p q = refl
+one_texts one_dictionary [] (o ∷ os) dictionary len p q = absurd (omega (arith, len))
+one_texts one_dictionary (c ∷ cs) [] dictionary len p q = absurd (omega (arith, len))
+one_texts one_dictionary (c ∷ cs) (o ∷ os) dictionary len p q = (one_dictionary (dictionary_of (c ∷ cs)) (dictionary_of (o ∷ os)) dictionary dictionary [] [] p q refl).0
 
-pub one_cells_of : (Is : List Cell → List ℕ → Type 0) → AreSized Is → TellCells Is → (pages others : List (List Cell)) (cells more : List Cell) (a b : List ℕ) → length cells ≡ length more → a ≡ b
-    → AreFilled Is pages cells a → AreFilled Is others more b → cells ≡ more
-one_cells_of Is sized one [] [] cells more a b len same (none, p) (none', q) = none ∙ sym none'
-one_cells_of Is sized one [] (g ∷ others) cells more a b len same (none, p) (y, page', rest', e', whole', is', full', rest_is') =
-    absurd (omega (arith, (sized g page' is').0, length-append g y, ap length e', ap length none, len))
-one_cells_of Is sized one (f ∷ pages) [] cells more a b len same (x, page, rest, e, whole, is, full, rest_is) (none, q) =
-    absurd (omega (arith, (sized f page is).0, length-append f x, ap length e, ap length none, len))
-one_cells_of Is sized one (f ∷ pages) (g ∷ others) cells more a b len same (x, page, rest, e, whole, is, full, rest_is) (y, page', rest', e', whole', is', full', rest_is') =
-    let joined : page ++ rest ≡ page' ++ rest' = sym whole ∙ same ∙ whole' in
-    let first = one f g page page' rest rest' is is' joined in
-    let rests : rest ≡ rest' = append_cancel_left page rest rest' (joined ∙ ap (λ (bytes : List ℕ). bytes ++ rest') (sym first.1)) in
-    let len' : length x ≡ length y = omega (arith, len, ap length e, ap length e', length-append f x, length-append g y, ap length first.0) in
-    e ∙ ap (λ (cs : List Cell). cs ++ x) first.0 ∙ ap (λ (cs : List Cell). g ++ cs) (one_cells_of Is sized one pages others x y rest rest' len' rests rest_is rest_is') ∙ sym e'
+data_tells : OnePage → OneDictionary → OneCodePage → (dictionary : Bool) (kind : CellKind) (required : Bool) (cells others : List Cell) (before bytes : List ℕ) → length cells ≡ length others
+    → IsBefore dictionary cells before → IsBefore dictionary others before → IsData dictionary kind required cells bytes → IsData dictionary kind required others bytes → cells ≡ others
+data_tells one_page one_dictionary one_code_page false kind required cells others before bytes len is is' p q = one_cells one_page kind required cells others bytes len p q
+data_tells one_page one_dictionary one_code_page true kind required cells others before bytes len is is' p q =
+    let texts : List (List ℕ) = dictionary_of cells in
+    let same : texts ≡ dictionary_of others = one_texts one_dictionary cells others before len is is' in
+    one_cells_of (IsCodePage required texts) (sized_codes required texts) (one_code_page required texts) p.pages q.pages cells others bytes bytes len refl p.spelled
+    (subst (λ (ts : List (List ℕ)). AreFilled (IsCodePage required ts) q.pages others bytes) (sym same) q.spelled)
 
--- cells in pages fit their lengths where those in each page do
-pub filled_fits : (Is : List Cell → List ℕ → Type 0) → ((cells : List Cell) (page : List ℕ) → Is cells page → All Fits cells) → (pages : List (List Cell)) (cells : List Cell) (bytes : List ℕ) → AreFilled Is pages cells bytes → All Fits cells
-filled_fits Is fits [] cells bytes (none, p) = subst (All Fits) (sym none) (All-nil Fits)
-filled_fits Is fits (f ∷ pages) cells bytes (x, page, rest, e, whole, is, full, more) =
-    subst (All Fits) (sym e) (All-append Fits f x (fits f page is) (filled_fits Is fits pages x rest more))
+-- no pieces are the chunks of two lists of as many cells
+pub pieces_tell : OnePage → OneDictionary → OneCodePage → (pages : Pages) (rows others : List Numbered) (c : Column) (x : Pieces) → length (cells_of c rows) ≡ length (cells_of c others)
+    → IsChunkOf pages rows c x → IsChunkOf pages others c x → cells_of c rows ≡ cells_of c others
+pieces_tell one_page one_dictionary one_code_page pages rows others c x len p q =
+    data_tells one_page one_dictionary one_code_page (has_dictionary pages (type_of c)) (kind_of c) (is_required c) (cells_of c rows) (cells_of c others) x.dictionary x.pages len
+    p.chunk.before q.chunk.before p.chunk.data_pages q.chunk.data_pages
 
--- ---- pages of values
+-- ---- the cells fit their lengths
 
-sized_pages : (kind : CellKind) (required : Bool) → AreSized (IsPage kind required)
-sized_pages kind required cells page is = (is.some, is.few)
+text_fits : (texts : List (List ℕ)) (k : ℕ) (text : List ℕ) → AllByRecursion (λ t. length t < 2 ^ 32) texts → slice_get texts k ≡ Some text → length text < 2 ^ 32
+text_fits [] k text fit e = absurd cc
+text_fits (t ∷ ts) zero text fit e = let same : t ≡ text = cc in subst (λ (x : List ℕ). length x < 2 ^ 32) same fit.0
+text_fits (t ∷ ts) (suc k) text fit e = text_fits ts k text fit.1 e
 
--- cells have one chunk
-pub one_chunk : OneRuns → (kind : CellKind) (required : Bool) (cells : List Cell) (a b : List ℕ) → IsChunk kind required cells a → IsChunk kind required cells b → a ≡ b
-one_chunk one_runs kind required cells a b p q =
-    one_chunk_of (IsPage kind required) (sized_pages kind required) (one_page_of one_runs kind required) p.pages q.pages cells a b p.spelled q.spelled
+found_fit : (texts : List (List ℕ)) (indexes : List ℕ) (cells : List Cell) → AllByRecursion (λ t. length t < 2 ^ 32) texts → AllByRecursion (IsOfColumn BytesKind false) cells
+    → AllZip (λ index text. slice_get texts index ≡ Some text) indexes (texts_in cells) → AllByRecursion Fits cells
+found_fit texts indexes [] fit column are = tt
+found_fit texts indexes (Absent ∷ cells) fit column are = (tt, found_fit texts indexes cells fit column.1 are)
+found_fit texts indexes (Whole n ∷ cells) fit column are = absurd column.0
+found_fit texts [] (Bytes b ∷ cells) fit column are = absurd are
+found_fit texts (k ∷ ks) (Bytes b ∷ cells) fit column are = (text_fits texts k b fit are.0, found_fit texts ks cells fit column.1 are.1)
 
--- no bytes are the chunks of two lists of as many cells
-pub one_cells : OnePage → (kind : CellKind) (required : Bool) (cells more : List Cell) (bytes : List ℕ) → length cells ≡ length more → IsChunk kind required cells bytes → IsChunk kind required more bytes → cells ≡ more
-one_cells one_page kind required cells more bytes len p q =
-    one_cells_of (IsPage kind required) (sized_pages kind required) (one_page kind required) p.pages q.pages cells more bytes bytes len refl p.spelled q.spelled
+-- a cell of any column is one of an optional column
+weaker : (required : Bool) (cells : List Cell) → AllByRecursion (IsOfColumn BytesKind required) cells → AllByRecursion (IsOfColumn BytesKind false) cells
+weaker required [] h = tt
+weaker required (Absent ∷ cells) h = (refl, weaker required cells h.1)
+weaker required (Whole n ∷ cells) h = absurd h.0
+weaker required (Bytes b ∷ cells) h = (tt, weaker required cells h.1)
+
+-- the indexes in a body
+body_indexes : (required : Bool) (texts : List (List ℕ)) (cells : List Cell) (body : List ℕ) → IsCodeBody required texts cells body → (bytes : List ℕ) × AreIndexes texts cells bytes
+body_indexes true texts cells body p = (body, p)
+body_indexes false texts cells body (levels, indexes, spelled, are, whole) = (indexes, are)
+
+code_page_fits : (required : Bool) (texts : List (List ℕ)) → All (λ text. length text < 2 ^ 32) texts → (cells : List Cell) (page : List ℕ) → IsCodePage required texts cells page → All Fits cells
+code_page_fits required texts fit cells page is =
+    let (bytes, are) = body_indexes required texts cells is.body is.spelled in
+    All-from_recursion Fits cells (found_fit texts are.indexes cells (recursion_from_All (λ text. length text < 2 ^ 32) texts fit)
+    (weaker required cells (recursion_from_All (IsOfColumn BytesKind required) cells is.column)) are.are)
+
+data_fits : (dictionary : Bool) (kind : CellKind) (required : Bool) (cells : List Cell) (before bytes : List ℕ) → IsBefore dictionary cells before → IsData dictionary kind required cells bytes → All Fits cells
+data_fits false kind required cells before bytes is p = values_fit kind required cells bytes p
+data_fits true kind required [] before bytes is p = All-nil Fits
+data_fits true kind required (cell ∷ cells) before bytes is p =
+    let texts : List (List ℕ) = dictionary_of (cell ∷ cells) in
+    filled_fits (IsCodePage required texts) (code_page_fits required texts is.fit) p.pages (cell ∷ cells) bytes p.spelled
 
 -- the cells of a chunk fit their lengths
-pub chunk_fits : (kind : CellKind) (required : Bool) (cells : List Cell) (bytes : List ℕ) → IsChunk kind required cells bytes → All Fits cells
-chunk_fits kind required cells bytes is = filled_fits (IsPage kind required) (λ front page page_is. page_is.fit) is.pages cells bytes is.spelled
+pub chunk_fits : (dictionary : Bool) (kind : CellKind) (required : Bool) (cells : List Cell) (x : Pieces) → IsChunk dictionary kind required cells x → All Fits cells
+chunk_fits dictionary kind required cells x is = data_fits dictionary kind required cells x.dictionary x.pages is.before is.data_pages
+
+pub pieces_fit : (pages : Pages) (rows : List Numbered) (c : Column) (x : Pieces) → IsChunkOf pages rows c x → All Fits (cells_of c rows)
+pieces_fit pages rows c x is = chunk_fits (has_dictionary pages (type_of c)) (kind_of c) (is_required c) (cells_of c rows) x is.chunk
+
+-- ---- places
+
+abbrev first_size : List Chunk → ℕ
+first_size [] = 0
+first_size (k ∷ ks) = k.size
+
+abbrev first_data : List Chunk → ℕ
+first_data [] = 0
+first_data (k ∷ ks) = k.data_page
+
+-- chunks are told by their places
+pub pieces_once : (at : ℕ) (xs ys : List Pieces) → places_from at xs ≡ places_from at ys → chunk_bytes xs ≡ chunk_bytes ys → xs ≡ ys
+pieces_once at [] [] places e = refl
+pieces_once at [] (y ∷ ys) places e = absurd (omega (arith, ap length places))
+pieces_once at (x ∷ xs) [] places e = absurd (omega (arith, ap length places))
+pieces_once at (x ∷ xs) (y ∷ ys) places e =
+    let size : length (piece_bytes x) ≡ length (piece_bytes y) = ap first_size places in
+    let data_page : at + length x.dictionary ≡ at + length y.dictionary = ap first_data places in
+    let parts = split_same (piece_bytes x) (piece_bytes y) (chunk_bytes xs) (chunk_bytes ys) e size in
+    let inner = split_same x.dictionary y.dictionary x.pages y.pages parts.0 (omega (arith, data_page)) in
+    let behind : places_from (at + length (piece_bytes x)) xs ≡ places_from (at + length (piece_bytes x)) ys =
+    ap (λ (ks : List Chunk). drop 1 ks) places ∙ ap (λ (n : ℕ). places_from (at + n) ys) (sym size) in
+    let others = pieces_once (at + length (piece_bytes x)) xs ys behind parts.1 in
+    λ i. record { dictionary = inner.0 i; pages = inner.1 i } ∷ others i

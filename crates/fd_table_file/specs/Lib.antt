@@ -1,5 +1,4 @@
 pub mod Chunks
 pub mod Columns
-pub mod Dictionaries
 pub mod Files
 pub mod Frame

@@ -52,22 +52,23 @@ fn columns_of(alloc: Global, table: &ColumnPart) -> Result<Columns, NoMemory>
     Ok(columns)
 }
 
-/// The footer of the file of a table with plain pages, whose chunks stand in these places. A table
-/// without rows has no chunks, and its places are left out.
+/// The footer of the file of a table with pages of this kind, whose chunks stand in these places. A
+/// table without rows has no chunks, and its places are left out.
 pub fn footer_of(
     alloc: Global,
+    pages: Pages,
     table: &ColumnPart,
     lo: u64,
     hi: u64,
     places: Chunks,
 ) -> Result<Footer, NoMemory>
-    ensures { IfOk result (λ footer. footer ≡ footer_at table.now lo hi places) }
+    ensures { IfOk result (λ footer. footer ≡ footer_at pages table.now lo hi places) }
 {
     let columns = columns_of(alloc, table)?;
     let rows = table.len();
     let chunks = if rows == 0 { Items::new(alloc) } else { places };
     Ok(Footer {
-        pages: Pages::Plain,
+        pages,
         lo,
         hi,
         rows: rows as u64,

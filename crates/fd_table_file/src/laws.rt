@@ -1,5 +1,4 @@
-ghost use Rattle.std.specs.Prelude.{◌≡◌, ◌+◌, ◌<◌, ◌^◌, ℕ, Bool, List, All, length};
-ghost use Rattle.std.specs.List.{concat};
+ghost use Rattle.std.specs.Prelude.{◌≡◌, ◌+◌, ◌<◌, ◌^◌, ℕ, Bool, List, [], All, length};
 ghost use Rattle.fd_kinds.specs.declared.row.Numbered.{Numbered};
 ghost use Rattle.fd_column.specs.Cells.{Column};
 ghost use Rattle.fd_pages.specs.declared.cell.CellKind.{CellKind as Kind};
@@ -9,8 +8,8 @@ ghost use Rattle.fd_footer.specs.declared.footer.Pages.{Pages};
 ghost use Rattle.fd_footer.specs.Footers.{IsPlaced};
 ghost use Rattle.fd_footer.specs.Tables.{total_size};
 ghost use Rattle.fd_table_file.specs.Columns.{kind_of, is_required, cells_of, ColumnsHavePlaces};
-ghost use Rattle.fd_table_file.specs.Chunks.{IsChunk};
-ghost use Rattle.fd_table_file.specs.Files.{IsFileOf, places_from};
+ghost use Rattle.fd_table_file.specs.Chunks.{Pieces, piece_bytes, IsChunk};
+ghost use Rattle.fd_table_file.specs.Files.{IsFileOf, chunk_at, plain_chunk_at, places_from, chunk_bytes};
 
 use fd_footer::{footers_are_spelled, one_footer};
 use fd_hybrid::one_spelling;
@@ -53,18 +52,21 @@ pub fn cells_have_kinds()
 {}
 
 /// Chunks that follow each other from a place on: a place for each, which is a number of 64 bits
-/// with a sign where the end of the last one is, and together their bytes.
+/// with a sign where the end of the last one is, and together their bytes. The first data page of
+/// one without a dictionary stands where it does.
 pub fn chunks_are_placed()
-    ensures count { (at : ℕ) (chunks : List (List ℕ))
+    ensures count { (at : ℕ) (chunks : List Pieces)
         → length (places_from at chunks) ≡ length chunks }
-    ensures fit { (at : ℕ) (chunks : List (List ℕ)) → at + length (concat chunks) < 2 ^ 63
+    ensures fit { (at : ℕ) (chunks : List Pieces) → at + length (chunk_bytes chunks) < 2 ^ 63
         → All IsPlaced (places_from at chunks) }
-    ensures sizes { (at : ℕ) (chunks : List (List ℕ))
-        → total_size (places_from at chunks) ≡ length (concat chunks) }
+    ensures sizes { (at : ℕ) (chunks : List Pieces)
+        → total_size (places_from at chunks) ≡ length (chunk_bytes chunks) }
+    ensures plain { (at : ℕ) (chunk : Pieces) → chunk.dictionary ≡ []
+        → chunk_at at chunk ≡ plain_chunk_at at (length (piece_bytes chunk)) }
 {}
 
-/// The cells of a chunk fit the lengths that its pages tell.
+/// The cells of a chunk fit the lengths that its pages tell, with a dictionary or without.
 pub fn cells_fit()
-    ensures { (kind : Kind) (required : Bool) (cells : List Cell) (bytes : List ℕ)
-        → IsChunk kind required cells bytes → All Fits cells }
+    ensures { (dictionary : Bool) (kind : Kind) (required : Bool) (cells : List Cell)
+        (chunk : Pieces) → IsChunk dictionary kind required cells chunk → All Fits cells }
 {}

@@ -4,7 +4,7 @@ use Rattle.fd_thrift.specs.declared.fault.ThriftFault.{ThriftFault}
 use Rattle.fd_thrift.specs.declared.fault.ThriftFault.TheVariants.{Cut, BadType, BadSize, Deep, NoMemory}
 use Rattle.fd_thrift.specs.Values.{Value}
 use Rattle.fd_thrift.specs.Format.{Spells}
-use Rattle.fd_thrift.specs.Reader.{◌>>=◌, Reading, tree_at, read_at, AreBytes, Gives, IsCutShort, StopsBy}
+use Rattle.fd_thrift.specs.Reader.{◌>>=◌, Reading, tree_at, read_at, AreBytes, DecodesOrRunsOut, IsCutShort, StopsBy}
 use Rattle.fd_thrift.proofs.Roundtrips.{tree_again}
 use Rattle.fd_thrift.proofs.Soundness.{ok_is, no_ok, tree_takes}
 use Rattle.fd_thrift.proofs.Extensions.{Keeps, tree_keeps}
@@ -120,15 +120,15 @@ cut_at : (at : ℕ) (piece : List ℕ) → tree_at piece ≡ Err Cut → read_at
 unfolding read_at
 cut_at at piece h = rw h refl
 
-pub answer_cut : {X : Type 0} (see : X → Value × ℕ) (r : Result X ThriftFault) (at : ℕ) (piece : List ℕ) → AreBytes piece → Gives see r (read_at at piece) → r ≡ Err Cut → IsCutShort piece
+pub answer_cut : {X : Type 0} (see : X → Value × ℕ) (r : Result X ThriftFault) (at : ℕ) (piece : List ℕ) → AreBytes piece → DecodesOrRunsOut see r (read_at at piece) → r ≡ Err Cut → IsCutShort piece
 answer_cut {X} see r at piece fits h is =
-    let gives : Gives see (Err Cut) (read_at at piece) = subst (λ (x : Result X ThriftFault). Gives see x (read_at at piece)) is h in
+    let gives : DecodesOrRunsOut see (Err Cut) (read_at at piece) = subst (λ (x : Result X ThriftFault). DecodesOrRunsOut see x (read_at at piece)) is h in
     cut_is_front piece fits (err_at at piece Cut gives)
 
-pub answer_front : {X : Type 0} (see : X → Value × ℕ) (r : Result X ThriftFault) (at : ℕ) (piece : List ℕ) → Gives see r (read_at at piece) → IsCutShort piece → Gives {Y = Value × ℕ} see r (Err Cut)
-answer_front {X} see r at piece h s = subst (λ (read : Result (Value × ℕ) ThriftFault). Gives see r read) (cut_at at piece (front_is_cut piece s)) h
+pub answer_front : {X : Type 0} (see : X → Value × ℕ) (r : Result X ThriftFault) (at : ℕ) (piece : List ℕ) → DecodesOrRunsOut see r (read_at at piece) → IsCutShort piece → DecodesOrRunsOut {Y = Value × ℕ} see r (Err Cut)
+answer_front {X} see r at piece h s = subst (λ (read : Result (Value × ℕ) ThriftFault). DecodesOrRunsOut see r read) (cut_at at piece (front_is_cut piece s)) h
 
-pub answer_first : {X : Type 0} (see : X → Value × ℕ) (r : Result X ThriftFault) (at : ℕ) (piece : List ℕ) → AreBytes piece → Gives see r (read_at at piece)
+pub answer_first : {X : Type 0} (see : X → Value × ℕ) (r : Result X ThriftFault) (at : ℕ) (piece : List ℕ) → AreBytes piece → DecodesOrRunsOut see r (read_at at piece)
     → IfErr r (λ fault. fault ≢ Cut → fault ≢ NoMemory → StopsBy fault piece)
 answer_first see (Ok x) at piece fits h = tt
 answer_first see (Err Cut) at piece fits h = λ other some. absurd (other refl)

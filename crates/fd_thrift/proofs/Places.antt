@@ -3,7 +3,7 @@ use Rattle.std.proofs.Common.{◌≡◌, ℕ, zero, suc, ◌+◌, ◌-◌, List,
 use Rattle.fd_thrift.specs.declared.fault.ThriftFault.{ThriftFault}
 use Rattle.fd_thrift.specs.Values.{Value}
 use Rattle.fd_thrift.specs.Format.{spelling, Spells}
-use Rattle.fd_thrift.specs.Reader.{tree_at, read_at, AreBytes, Gives, Begins}
+use Rattle.fd_thrift.specs.Reader.{tree_at, read_at, AreBytes, DecodesOrRunsOut, Begins}
 use Rattle.fd_thrift.proofs.Roundtrips.{tree_again}
 use Rattle.fd_thrift.proofs.Soundness.{bind_ok, ok_is, tree_takes}
 
@@ -39,14 +39,14 @@ read_only at piece v after b =
     let place : at + (length piece - length b.1) ≡ after = omega (arith, b.4) in
     rw read (ap (λ (n : ℕ). Ok (v, n)) place)
 
-pub answer_found : {X : Type 0} (see : X → Value × ℕ) (r : Result X ThriftFault) (at : ℕ) (piece : List ℕ) → AreBytes piece → Gives see r (read_at at piece)
+pub answer_found : {X : Type 0} (see : X → Value × ℕ) (r : Result X ThriftFault) (at : ℕ) (piece : List ℕ) → AreBytes piece → DecodesOrRunsOut see r (read_at at piece)
     → IfOk r (λ x. Begins at piece (see x).0 (see x).1)
 answer_found see (Ok x) at piece fits h = read_found at piece (see x).0 (see x).1 fits h
 answer_found see (Err e) at piece fits h = tt
 
-pub answer_only : {X : Type 0} (see : X → Value × ℕ) (r : Result X ThriftFault) (at : ℕ) (piece : List ℕ) → Gives see r (read_at at piece)
-    → (v : Value) (after : ℕ) → Begins at piece v after → Gives {Y = Value × ℕ} see r (Ok (v, after))
-answer_only see r at piece h v after b = subst (λ (read : Result (Value × ℕ) ThriftFault). Gives see r read) (read_only at piece v after b) h
+pub answer_only : {X : Type 0} (see : X → Value × ℕ) (r : Result X ThriftFault) (at : ℕ) (piece : List ℕ) → DecodesOrRunsOut see r (read_at at piece)
+    → (v : Value) (after : ℕ) → Begins at piece v after → DecodesOrRunsOut {Y = Value × ℕ} see r (Ok (v, after))
+answer_only see r at piece h v after b = subst (λ (read : Result (Value × ℕ) ThriftFault). DecodesOrRunsOut see r read) (read_only at piece v after b) h
 
 -- one list of bytes is no front of two spellings
 pub one_of : (a b x y : List ℕ) (v w : Value) → Spells a v → Spells b w → a ++ x ≡ b ++ y → (v ≡ w) × (a ≡ b)

@@ -128,9 +128,9 @@ AreBytes bytes = (i : ℕ) → slice_index bytes i < 256
 -- ---- what calls answer
 
 -- what a call answers, seen by `see`, is what reading gives
-abbrev pub Reads : {X Y : Type 0} → (X → Y) → Result X ThriftFault → Result Y ThriftFault → Type 0
-Reads see (Ok x) read = read ≡ Ok (see x)
-Reads see (Err e) read = read ≡ Err e
+abbrev pub Decodes : {X Y : Type 0} → (X → Y) → Result X ThriftFault → Result Y ThriftFault → Type 0
+Decodes see (Ok x) read = read ≡ Ok (see x)
+Decodes see (Err e) read = read ≡ Err e
 
 -- the reading is refused by this fault, unless memory ran out
 abbrev pub Fails : {Y : Type 0} → ThriftFault → Result Y ThriftFault → Type 0
@@ -138,9 +138,9 @@ Fails NoMemory read = Unit {0}
 Fails fault read = read ≡ Err fault
 
 -- what a call that takes memory answers, seen by `see`, is what reading gives, unless memory ran out
-abbrev pub Gives : {X Y : Type 0} → (X → Y) → Result X ThriftFault → Result Y ThriftFault → Type 0
-Gives see (Ok x) read = read ≡ Ok (see x)
-Gives see (Err e) read = Fails e read
+abbrev pub DecodesOrRunsOut : {X Y : Type 0} → (X → Y) → Result X ThriftFault → Result Y ThriftFault → Type 0
+DecodesOrRunsOut see (Ok x) read = read ≡ Ok (see x)
+DecodesOrRunsOut see (Err e) read = Fails e read
 
 -- a front of the bytes, which begin at the place `at`, spells the value, and `after` is the place behind it
 abbrev pub Begins : ℕ → List ℕ → Value → ℕ → Type 0

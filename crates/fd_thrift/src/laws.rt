@@ -14,7 +14,8 @@ pub fn one_spelling()
 /// Reading answers a value exactly where its spelling stands in front, with the bytes behind it.
 pub fn spellings_are_read()
     ensures found { (bytes rest : List ℕ) (v : Value) → AreBytes bytes
-        → tree_at bytes ≡ Ok (v, rest) → (front : List ℕ) × (bytes ≡ front ++ rest) × Spells front v }
+        → tree_at bytes ≡ Ok (v, rest)
+        → (front : List ℕ) × (bytes ≡ front ++ rest) × Spells front v }
     ensures only { (front rest : List ℕ) (v : Value) → Spells front v
         → tree_at (front ++ rest) ≡ Ok (v, rest) }
 {}

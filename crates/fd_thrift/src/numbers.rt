@@ -1,7 +1,7 @@
 ghost use Rattle.std.specs.Prelude.{◌≡◌, ◌+◌, ◌++◌, ◌<◌, ◌≤◌, ◌^◌, ◌==◌, ◌&&◌, ◌||◌, nat_le, length, IfOk, OnOk, FitsSigned};
 ghost use Rattle.std.specs.Int.{w32};
 ghost use Rattle.fd_thrift.specs.Format.{zigzag as zigzag_of, varint};
-ghost use Rattle.fd_thrift.specs.Reader.{varint_at, unzigzag as unzigzag_of, Reads};
+ghost use Rattle.fd_thrift.specs.Reader.{varint_at, unzigzag as unzigzag_of, Decodes};
 
 use crate::{Bytes, NoMemory, ThriftFault};
 
@@ -37,7 +37,7 @@ fn is_refused(later: bool, bits: u32, last: u64) -> bool
 /// The number below 2 ^ bits in front of the bytes, and the bytes behind it.
 pub(crate) fn varint_of(bytes: &[u8], bits: u32) -> Result<(u64, &[u8]), ThriftFault>
     requires { bits ≤ 64 }
-    ensures value { Reads (λ n. (n.0, n.1.now)) result (varint_at bits bytes.now) }
+    ensures value { Decodes (λ n. (n.0, n.1.now)) result (varint_at bits bytes.now) }
     ensures below { IfOk result (λ n. n.0 < 2 ^ bits) }
     ensures shorter { IfOk result (λ n. length n.1.now < length bytes.now) }
 {

@@ -1,7 +1,7 @@
 ghost use Rattle.std.specs.Prelude.{◌≡◌, ◌≢◌, ℕ, Ok, Err, ◌<◌, ◌≤◌, ◌^◌, length, slice_range, IfOk, IfErr};
 ghost use Rattle.fd_thrift.specs.Values.{Value};
 ghost use Rattle.fd_thrift.specs.View.{view, items_view, fields_view};
-ghost use Rattle.fd_thrift.specs.Reader.{binary_at, long_size_at, size_at, list_header_at, next_id as next_id_of, list_at, struct_at, value_at, read_at, Reads, Gives, Begins, IsCutShort, StopsBy};
+ghost use Rattle.fd_thrift.specs.Reader.{binary_at, long_size_at, size_at, list_header_at, next_id as next_id_of, list_at, struct_at, value_at, read_at, Decodes, DecodesOrRunsOut, Begins, IsCutShort, StopsBy};
 
 use crate::kind::{Kind, read_kind};
 use crate::numbers::{unzigzag, varint_of};
@@ -14,7 +14,7 @@ const LEVELS: usize = 8;
 /// A length and a copy of so many bytes, and the bytes behind them.
 #[tactic(auto, unfolding(crate::specs::Reader::binary_at))]
 fn binary_of(alloc: Global, bytes: &[u8]) -> Result<(Bytes, &[u8]), ThriftFault>
-    ensures value { Gives (λ b. (b.0, b.1.now)) result (binary_at bytes.now) }
+    ensures value { DecodesOrRunsOut (λ b. (b.0, b.1.now)) result (binary_at bytes.now) }
     ensures shorter { IfOk result (λ b. length b.1.now ≤ length bytes.now) }
 {
     let (size, rest) = varint_of(bytes, 64)?;
@@ -27,7 +27,7 @@ fn binary_of(alloc: Global, bytes: &[u8]) -> Result<(Bytes, &[u8]), ThriftFault>
 
 /// The size of a list in the long form of its header, and the bytes behind it.
 fn long_size_of(bytes: &[u8]) -> Result<(u64, &[u8]), ThriftFault>
-    ensures value { Reads (λ n. (n.0, n.1.now)) result (long_size_at bytes.now) }
+    ensures value { Decodes (λ n. (n.0, n.1.now)) result (long_size_at bytes.now) }
     ensures shorter { IfOk result (λ n. length n.1.now ≤ length bytes.now) }
 {
     let (size, rest) = varint_of(bytes, 64)?;
@@ -39,7 +39,7 @@ fn long_size_of(bytes: &[u8]) -> Result<(u64, &[u8]), ThriftFault>
 
 /// The size of a list from the upper half of its header's first byte, and the bytes behind it.
 fn size_of(levels: usize, half: u8, kind: Kind, bytes: &[u8]) -> Result<(u64, &[u8]), ThriftFault>
-    ensures value { Reads (λ n. (n.0, n.1.now)) result (size_at levels half kind bytes.now) }
+    ensures value { Decodes (λ n. (n.0, n.1.now)) result (size_at levels half kind bytes.now) }
     ensures shorter { IfOk result (λ n. length n.1.now ≤ length bytes.now) }
 {
     if half == 0 {
@@ -60,7 +60,7 @@ fn size_of(levels: usize, half: u8, kind: Kind, bytes: &[u8]) -> Result<(u64, &[
 /// The size of a list and the type of its items, which may have so many levels, and the bytes
 /// behind its header.
 fn list_header_of(levels: usize, bytes: &[u8]) -> Result<((u64, Kind), &[u8]), ThriftFault>
-    ensures value { Reads (λ h. (h.0, h.1.now)) result (list_header_at levels bytes.now) }
+    ensures value { Decodes (λ h. (h.0, h.1.now)) result (list_header_at levels bytes.now) }
     ensures shorter { IfOk result (λ h. length h.1.now ≤ length bytes.now) }
 {
     let Some((header, rest)) = bytes.split_first() else {
@@ -91,7 +91,8 @@ fn value_of<'a>(
     kind: Kind,
     bytes: &'a [u8],
 ) -> Result<(Tree, &'a [u8]), ThriftFault>
-    ensures value { Gives (λ v. (view v.0, v.1.now)) result (value_at levels kind bytes.now) }
+    ensures value { DecodesOrRunsOut (λ v. (view v.0, v.1.now)) result
+        (value_at levels kind bytes.now) }
     ensures shorter { IfOk result (λ v. length v.1.now ≤ length bytes.now) }
 {
     if levels == 0 {
@@ -128,7 +129,8 @@ fn list_of<'a>(
     levels: usize,
     bytes: &'a [u8],
 ) -> Result<(Trees, &'a [u8]), ThriftFault>
-    ensures value { Gives (λ v. (items_view v.0.items, v.1.now)) result (list_at levels (value_at levels) bytes.now) }
+    ensures value { DecodesOrRunsOut (λ v. (items_view v.0.items, v.1.now)) result
+        (list_at levels (value_at levels) bytes.now) }
     ensures shorter { IfOk result (λ v. length v.1.now ≤ length bytes.now) }
 {
     let ((size, kind), mut rest) = list_header_of(levels, bytes)?;
@@ -148,7 +150,8 @@ fn struct_of<'a>(
     levels: usize,
     bytes: &'a [u8],
 ) -> Result<(TreeFields, &'a [u8]), ThriftFault>
-    ensures value { Gives (λ v. (fields_view v.0.items, v.1.now)) result (struct_at (value_at levels) bytes.now) }
+    ensures value { DecodesOrRunsOut (λ v. (fields_view v.0.items, v.1.now)) result
+        (struct_at (value_at levels) bytes.now) }
     ensures shorter { IfOk result (λ v. length v.1.now ≤ length bytes.now) }
 {
     let mut fields = Vec::new(alloc);
@@ -176,7 +179,8 @@ fn struct_of<'a>(
 fn tree_of(alloc: Global, bytes: &[u8], at: usize, end: usize) -> Result<(Tree, usize), ThriftFault>
     requires begin { at ≤ end }
     requires within { end ≤ length bytes.now }
-    ensures { Gives (λ r. (view r.0, r.1)) result (read_at at (slice_range bytes.now at end)) }
+    ensures { DecodesOrRunsOut (λ r. (view r.0, r.1)) result
+        (read_at at (slice_range bytes.now at end)) }
 {
     let (tree, rest) = value_of(alloc, LEVELS, Kind::Struct, &bytes[at..end])?;
     Ok((tree, end - rest.len()))
@@ -198,16 +202,17 @@ pub fn read(
     ensures found { IfOk result (λ r. Begins at (slice_range bytes.now at end) (view r.0) r.1) }
     // What is spelled so is read, unless memory runs out.
     ensures only { (v : Value) (after : ℕ) → Begins at (slice_range bytes.now at end) v after
-        → Gives {Y = Value × ℕ} (λ r. (view r.0, r.1)) result (Ok (v, after)) }
+        → DecodesOrRunsOut {Y = Value × ℕ} (λ r. (view r.0, r.1)) result (Ok (v, after)) }
     // The bytes are cut exactly where they are a front of a spelling, and not the whole of it.
     ensures cut { result ≡ Err ThriftFault.Cut → IsCutShort (slice_range bytes.now at end) }
     ensures front { IsCutShort (slice_range bytes.now at end)
-        → Gives {Y = Value × ℕ} (λ r. (view r.0, r.1)) result (Err ThriftFault.Cut) }
+        → DecodesOrRunsOut {Y = Value × ℕ} (λ r. (view r.0, r.1)) result (Err ThriftFault.Cut) }
     // Another fault is that of the first byte with which no spelling begins so.
     ensures first { IfErr result (λ fault. fault ≢ ThriftFault.Cut → fault ≢ ThriftFault.NoMemory
         → StopsBy fault (slice_range bytes.now at end)) }
     // Which fault it is, by the grammar.
-    ensures exact { Gives (λ r. (view r.0, r.1)) result (read_at at (slice_range bytes.now at end)) }
+    ensures exact { DecodesOrRunsOut (λ r. (view r.0, r.1)) result
+        (read_at at (slice_range bytes.now at end)) }
 {
     tree_of(alloc, bytes, at, end)
 }

@@ -68,7 +68,8 @@ fn write_items(out: &mut Bytes, trees: &Trees) -> Result<(), NoMemory>
 #[cycle(write)]
 fn write_fields(out: &mut Bytes, fields: &TreeFields) -> Result<(), NoMemory>
     requires { AreFormedFields 0 (fields_view fields.now.items) }
-    ensures ok { OnOk result (out.new ≡ out.old ++ fields_spelling 0 (fields_view fields.now.items)) }
+    ensures ok { OnOk result
+        (out.new ≡ out.old ++ fields_spelling 0 (fields_view fields.now.items)) }
     ensures fits { OnOk result (FitFields (fields_view fields.now.items)) }
 {
     let mut last = 0i16;

@@ -1,7 +1,7 @@
 ghost use Rattle.std.specs.Prelude.{◌≡◌, ◌<◌, ◌^◌, [], ◌∷◌, IfOk};
 
-use fd_column::{ColumnPart, Columns, PartBuilder};
-use fd_kinds::{NoMemory, Numbered, Text};
+use fd_column::{ColumnPart, Columns, PartBuilder, is_short};
+use fd_kinds::{NoMemory, Numbered, Stack, Text};
 use fixtures::{MadeRow, labels, made_row, texts};
 use std::alloc::Global;
 use std::test::Fail;
@@ -28,6 +28,9 @@ fn part_of(alloc: Global, row: &Numbered) -> Result<ColumnPart, NoMemory>
     requires { row.now.number < 2 ^ 63 }
     ensures { IfOk result (λ part. part ≡ row.now ∷ []) }
 {
+    if !is_short(&row.row.stack) {
+        return Err(NoMemory);
+    }
     PartBuilder::new(alloc).with_row(row)?.finish()
 }
 
@@ -119,20 +122,6 @@ fn has_label(part: &ColumnPart, name: &Text, value: &[u8]) -> bool {
     cells.entries() == 1 && cells.entry(0) == Some(value) && cells.index(0) == Some(0)
 }
 
-#[test]
-fn labels_have_columns_of_their_own(rt: HostRuntime) -> Result<(), Fail> {
-    let zone = Text::of(rt.alloc(), "zone")?;
-    assert!(rt; has_label(&part(rt.alloc())?, &zone, b"1"));
-    Ok(())
-}
-
-#[test]
-fn labels_of_profiles_are_no_labels(rt: HostRuntime) -> Result<(), Fail> {
-    let thread = Text::of(rt.alloc(), "thread")?;
-    assert!(rt; part(rt.alloc())?.label_column(&thread).is_none());
-    Ok(())
-}
-
 fn has_labels(alloc: Global, part: &ColumnPart) -> Result<bool, NoMemory> {
     if part.len() != 1 {
         return Ok(false);
@@ -147,13 +136,21 @@ fn has_stack(alloc: Global, part: &ColumnPart) -> Result<bool, NoMemory> {
         return Ok(false);
     }
     part.short();
-    let expected = texts(alloc, &["work", "main"])?;
+    let expected = Stack::of(texts(alloc, &["work", "main"])?)?;
     Ok(part.stack(0)? == expected)
+}
+
+/// Whether the series labels of a part alone have columns of their own.
+fn has_label_columns(alloc: Global, part: &ColumnPart) -> Result<bool, NoMemory> {
+    let zone = Text::of(alloc, "zone")?;
+    let thread = Text::of(alloc, "thread")?;
+    Ok(has_label(part, &zone, b"1") && part.label_column(&thread).is_none())
 }
 
 #[test]
 fn labels_and_a_stack_come_back(rt: HostRuntime) -> Result<(), Fail> {
     let part = part(rt.alloc())?;
+    assert!(rt; has_label_columns(rt.alloc(), &part)?);
     assert!(rt; has_labels(rt.alloc(), &part)?);
     assert!(rt; has_stack(rt.alloc(), &part)?);
     Ok(())

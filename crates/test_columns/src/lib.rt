@@ -5,6 +5,8 @@
 #[cfg(test)]
 mod columns;
 #[cfg(test)]
+mod dictionaries;
+#[cfg(test)]
 mod merges;
 #[cfg(test)]
 mod scans;

@@ -1,6 +1,6 @@
 ghost use Rattle.std.specs.Prelude.{◌≡◌, ◌<◌, ◌^◌, [], ◌∷◌, IfOk};
 
-use fd_column::{ColumnPart, Columns, PartBuilder};
+use fd_column::{ColumnPart, Columns, PartBuilder, is_short};
 use fd_kinds::{NoMemory, Numbered};
 use fd_merge::merge;
 use fixtures::{CPU, MadeRow, made_row};
@@ -21,6 +21,9 @@ fn part_of(alloc: Global, row: &Numbered) -> Result<ColumnPart, NoMemory>
     requires { row.now.number < 2 ^ 63 }
     ensures { IfOk result (λ part. part ≡ row.now ∷ []) }
 {
+    if !is_short(&row.row.stack) {
+        return Err(NoMemory);
+    }
     PartBuilder::new(alloc).with_row(row)?.finish()
 }
 

@@ -2,7 +2,7 @@ ghost use Rattle.std.specs.Prelude.{◌≡◌, All, IfOk, length};
 ghost use Rattle.fd_kinds.specs.Parts.{IsWithin};
 ghost use Rattle.fd_table_file.specs.Files.{IsSmall};
 
-use fd_column::{ColumnPart, Columns, PartBuilder};
+use fd_column::{ColumnPart, Columns, PartBuilder, is_short};
 use fd_kinds::{Bytes, NoMemory, Numbered, compare_rows, row_bytes};
 use fd_parquet::{FileFault, read_file, write_file};
 use fixtures::{MadeRow, made_row};
@@ -115,8 +115,9 @@ fn table_of(alloc: Global, first: &Numbered, second: &Numbered) -> Result<Column
     ensures within { IfOk result (λ table. All (IsWithin 6 9) table) }
     ensures small { IfOk result (λ table. IsSmall table) }
 {
+    let are_short = is_short(&first.row.stack) && is_short(&second.row.stack);
     let in_order = compare_rows(&second.row, &first.row) == Ordering::Greater;
-    if !in_order || row_bytes(&first.row) >= 1000 || row_bytes(&second.row) >= 1000 {
+    if !are_short || !in_order || row_bytes(&first.row) >= 1000 || row_bytes(&second.row) >= 1000 {
         return Err(NoMemory);
     }
     PartBuilder::new(alloc)

@@ -70,12 +70,12 @@ fn three_rows(alloc: Global, pages: Pages, data_page: u64) -> Result<Footer, All
     ensures { IfOk result (λ f. IsWritable f) }
 {
     let numbers = Column {
-        name: Text::from_string(String::from_str(alloc, "a")?),
+        name: Text::of(alloc, "a")?,
         column_type: ColumnType::Int64,
         required: true,
     };
     let texts = Column {
-        name: Text::from_string(String::from_str(alloc, "b")?),
+        name: Text::of(alloc, "b")?,
         column_type: ColumnType::ByteArray,
         required: false,
     };

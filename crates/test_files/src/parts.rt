@@ -2,10 +2,10 @@ ghost use Rattle.std.specs.Prelude.{◌<◌};
 
 use crate::files::{FILE, same_rows, table};
 use fd_column::Columns;
-use fd_kinds::{Batch, Bytes, Held, NoMemory};
+use fd_kinds::{Bytes, Held, NoMemory};
 use fd_parquet::FileFault;
 use fd_part::Part;
-use fixtures::{CPU, MadeRow, made_rows};
+use fixtures::{CPU, MadeRow, made_batch};
 use std::alloc::Global;
 use std::test::Fail;
 
@@ -35,8 +35,7 @@ fn is_loose(part: &Part, number: u64) -> bool {
 fn numbered(alloc: Global, number: u64) -> Result<Part, NoMemory>
     requires { 0 < number }
 {
-    let batch = Batch::of(made_rows(alloc, &ROWS)?)?;
-    let mut part = Part::fresh(batch)?;
+    let mut part = Part::fresh(made_batch(alloc, &ROWS)?)?;
     part.number(number);
     Ok(part)
 }

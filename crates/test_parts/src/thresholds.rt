@@ -1,22 +1,19 @@
 ghost use Rattle.std.specs.Prelude.{◌≡◌, [], IfOk};
+ghost use Rattle.fd_kinds.specs.History.{IsSmall};
 
 use crate::compactions::is_one_file;
 use fd_compact::{Compaction, compact_full};
 use fd_kinds::{Batch, Held, NoMemory};
 use fd_part::Part;
 use fd_shelf::Shelf;
-use fixtures::{CPU, made_rows};
+use fixtures::{CPU, made_batch};
 use std::alloc::Global;
 use std::test::Fail;
 
-/// The batch of one row.
-fn one_row(alloc: Global) -> Result<Batch, NoMemory> {
-    Batch::of(made_rows(alloc, &[CPU])?)
-}
-
 /// Adds a small batch under the number that follows the mark.
 fn add(shelf: &mut Shelf<Part>, batch: Batch) -> Result<(), NoMemory>
-    requires { shelf.old.book.stragglers ≡ [] }
+    requires alone { shelf.old.book.stragglers ≡ [] }
+    requires small { IsSmall batch.rows }
     ensures { shelf.new.book.stragglers ≡ [] }
 {
     let mut part = Part::fresh(batch)?;
@@ -40,7 +37,7 @@ fn loose_parts(alloc: Global, count: u64) -> Result<Shelf<Part>, NoMemory>
 {
     let mut shelf = Shelf::new(alloc);
     for _ in 0..count {
-        add(&mut shelf, one_row(alloc)?)?;
+        add(&mut shelf, made_batch(alloc, &[CPU])?)?;
     }
     Ok(shelf)
 }

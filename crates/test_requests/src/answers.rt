@@ -1,6 +1,6 @@
 use fd_json::{Fault, Parameter, answer_text, fault_text, number_text, stand_text};
 use fd_kinds::{
-    Answer, Items, NoMemory, OneRange, Point, Points, SeriesName, StackSum, Stand, Text,
+    Answer, Items, NoMemory, OneRange, Point, Points, SeriesName, Stack, StackSum, Stand, Text,
 };
 use fixtures::{kind, labels, texts};
 use std::alloc::Global;
@@ -42,7 +42,7 @@ fn numbers_are_texts(rt: HostRuntime) -> Result<(), Fail> {
 
 fn stack_sum(alloc: Global, frames: &[&str], value: i128) -> Result<StackSum, NoMemory> {
     Ok(StackSum {
-        stack: texts(alloc, frames)?,
+        stack: Stack::of(texts(alloc, frames)?)?,
         value,
     })
 }

@@ -13,3 +13,7 @@ returns-clause-frames c =
 pub returns-clause-shorter : goal.returns-clause-shorter
 returns-clause-shorter c =
     omega (arith, c.split_at.ensures.back_len, c.split_at-2.ensures.back_len, c.requires)
+
+pub returns-clause-short : goal.returns-clause-short
+returns-clause-short c =
+    omega (arith, c.split_at-2.ensures.front_len, c.min.ensures)

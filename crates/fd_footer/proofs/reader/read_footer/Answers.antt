@@ -4,6 +4,7 @@ use Rattle.fd_thrift.specs.View.{view}
 use Rattle.fd_footer.specs.declared.fault.FooterFault.TheVariants.{Footer}
 use Rattle.fd_footer.specs.Shapes.{has_shape}
 use Rattle.fd_footer.specs.Reader.{AnswersTable}
+use Rattle.fd_footer.proofs.ColumnCounts.{columns_few}
 use Rattle.fd_footer.proofs.TableColumns.{own_read}
 use Rattle.fd_footer.proofs.reader.read_footer.Goals as goal
 
@@ -17,3 +18,6 @@ returns-clause-footer c = λ e v spelled.
 
 pub returns-clause-own : goal.returns-clause-own
 returns-clause-own c = own_read (view c.in_ok-tree.tree) c.tabled.result c.tabled.ensures
+
+pub returns-clause-few : goal.returns-clause-few
+returns-clause-few c = columns_few c.args.bytes.now (view c.in_ok-tree.tree) c.tabled.result c.in_ok-tree.ensures.found c.tabled.ensures

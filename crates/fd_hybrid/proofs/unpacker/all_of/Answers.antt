@@ -1,6 +1,6 @@
 use Rattle.std.proofs.Common.{◌≡◌, ℕ, ◌-◌, ◌<◌, ◌^◌, length, length-append, Ok, ap, subst, arith}
 use Rattle.std.proofs.lemmas.Result.{err_from_is_err_and}
-use Rattle.fd_hybrid.specs.Unpacker.{run_at, with_front, Refuses}
+use Rattle.fd_hybrid.specs.Unpacker.{run_at, with_front, Fails}
 use Rattle.fd_hybrid.proofs.Loops.{refuses}
 use Rattle.fd_hybrid.proofs.WholeLoop.{taken_of, after_taken, run_more, run_refused, ends_early, ends_whole, some_there, none_there}
 use Rattle.fd_hybrid.proofs.unpacker.all_of.Goals as goal
@@ -12,7 +12,7 @@ returns-in_err-before c =
     let most : ℕ = c.loop-rest.invariant.so_far.0 in
     let left : ℕ = c.args.count - length c.loop-rest.values in
     let e : c.args.count - c.len.result ≡ left = ap (λ n. c.args.count - n) c.len.ensures in
-    let read = subst (λ (n : ℕ). Refuses c.in_err-before.field-0.0 (run_at c.args.width n c.loop-rest.before c.loop-rest.rest.now)) e c.in_err-before.ensures in
+    let read = subst (λ (n : ℕ). Fails c.in_err-before.field-0.0 (run_at c.args.width n c.loop-rest.before c.loop-rest.rest.now)) e c.in_err-before.ensures in
     rw (p.1, p.2) (refuses _ _ (run_at c.args.width left c.loop-rest.before c.loop-rest.rest.now)
     (λ h. run_refused most c.args.width left c.loop-rest.before c.loop-rest.rest.now c.loop-rest.values _ _ some c.loop-rest.invariant.so_far.1 h c.loop-rest.invariant.so_far.2)
     read)

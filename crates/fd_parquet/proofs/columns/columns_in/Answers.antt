@@ -31,7 +31,7 @@ loop-at-preserved c =
     subst (λ xs. ReadsColumns c.args.pages c.args.count c.args.columns.now c.args.bytes.now (c.loop-at.at + 1) xs c.push.new.self c.in-Ok.found.1.now) (sym c.in_ok-push-2.ensures.ok)
     (subst (λ xs. ReadsColumns c.args.pages c.args.count c.args.columns.now c.args.bytes.now (c.loop-at.at + 1) (c.loop-at.cells ++ c.in-Ok.found.0 ∷ []) xs c.in-Ok.found.1.now) (sym c.in_ok-push.ensures.ok)
     (columns_more c.args.pages c.args.count c.args.columns.now c.args.bytes.now c.loop-at.at c.loop-at.cells c.loop-at.places c.loop-at.rest.now c.index-columns-at.result c.loop-at-test.true c.index-columns-at.is c.loop-at.invariant
-    c.in-Ok.found.0 c.in-Ok.found.1.now c.placed.result c.placed.ensures c.in-Ok.ensures.found c.in-Ok.ensures.only))
+    c.chunks_are_placed.ensures.plain c.in-Ok.found.0 c.in-Ok.found.1.now c.placed.result c.placed.ensures c.in-Ok.ensures.found c.in-Ok.ensures.only))
 
 pub returns-clause-found : goal.returns-clause-found
 returns-clause-found c = columns_all c.args.pages c.args.count c.args.columns.now c.args.bytes.now c.loop-at.at c.loop-at.cells c.loop-at.places c.loop-at.rest.now c.loop-at-test.false c.loop-at.invariant

@@ -6,4 +6,4 @@ use Rattle.fd_part.proofs.batch_columns.columns_of.Goals as goal
 
 pub finish-requires : goal.finish-requires
 finish-requires c =
-    subst (λ rows. IsSorted numbered_cmp rows) (sym c.in_ok-builder.ensures) (sorted_with_number 0 c.args.rows.now c.requires)
+    subst (λ rows. IsSorted numbered_cmp rows) (sym c.in_ok-builder.ensures) (sorted_with_number 0 c.args.rows.now c.requires.sorted)

@@ -6,7 +6,14 @@ use Rattle.fd_lists.specs.Texts.{text_cmp}
 use Rattle.fd_column.specs.Cells.{column_names, column_texts}
 use Rattle.fd_scan.specs.LabelNames.{label_at, where_there}
 use Rattle.fd_scan.proofs.LabelNameLaws.{cells_found}
+use Rattle.fd_scan.proofs.RowTexts.{label_name_text}
 use Rattle.fd_scan.proofs.label_names.add_column_label.Goals as goal
+
+pub add_where_there-requires : goal.add_where_there-requires
+add_where_there-requires g c =
+    let rows : List Numbered = g.C.Columns.rows c.args.columns.now in
+    let is : label_at (column_names rows) c.args.column ≡ Some c.in-Some.name.now = search rules in
+    label_name_text rows c.args.column c.in-Some.name.now c.utf8-2.ensures.names is
 
 pub returns-in-Some-clause-ok : goal.returns-in-Some-clause-ok
 returns-in-Some-clause-ok g c =

@@ -8,4 +8,4 @@ pub returns-in-Ok-clause-ok : goal.returns-in-Ok-clause-ok
 returns-in-Ok-clause-ok g c =
     let rows : List Numbered = g.C.Columns.rows c.args.columns.now in
     λ before held.
-    c.in-Ok.ensures.ok (flat_map (λ row. map (λ pair. pair.name) row.labels.pairs) before) held ∙ names_more rows c.args.places.now before
+    c.in-Ok.ensures.ok (flat_map (λ row. map (λ pair. pair.name) row.labels.pairs) before) held ∙ names_more rows c.args.places.now before c.distinct_laws.ensures.same

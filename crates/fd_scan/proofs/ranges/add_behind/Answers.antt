@@ -1,5 +1,5 @@
 use Rattle.std.proofs.Common.{◌++◌, [], ◌∷◌, subst}
-use Rattle.fd_scan.specs.Groups.{AreRanges}
+use Rattle.fd_groups.specs.Groups.{AreRanges}
 use Rattle.fd_scan.specs.RowPlaces.{row_at}
 use Rattle.fd_scan.proofs.ranges.add_behind.Goals as goal
 

@@ -1,7 +1,7 @@
 use Rattle.std.proofs.Common.{rules, ℕ, ◌<◌, List, length, ◌++◌, take, subst}
 use Rattle.std.proofs.lemmas.List.{take_all}
 use Rattle.fd_kinds.specs.declared.row.Row.{Row}
-use Rattle.fd_scan.specs.Groups.{AreRanges}
+use Rattle.fd_groups.specs.Groups.{AreRanges}
 use Rattle.fd_scan.specs.RowPlaces.{rows_at}
 use Rattle.fd_scan.proofs.Outcomes.{on_err}
 use Rattle.fd_scan.proofs.RowLists.{places_more}

@@ -1,7 +1,7 @@
 use Rattle.std.proofs.Common.{List, ◌++◌, take}
 use Rattle.std.specs.Prelude.{IfSome}
 use Rattle.fd_kinds.specs.declared.row.Row.{Row}
-use Rattle.fd_scan.specs.Groups.{AreRanges}
+use Rattle.fd_groups.specs.Groups.{AreRanges}
 use Rattle.fd_scan.specs.LabelledPlaces.{IsLabelled}
 use Rattle.fd_scan.specs.RowPlaces.{rows_at}
 use Rattle.fd_scan.proofs.ranges.add_ranges_at.Given as goal

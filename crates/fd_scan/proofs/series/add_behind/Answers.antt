@@ -2,7 +2,8 @@ use Rattle.std.proofs.Common.{rules, ◌≡◌, ◌++◌, [], ◌∷◌, map, re
 use Rattle.fd_kinds.specs.declared.row.Row.{Row}
 use Rattle.fd_kinds.specs.Meaning.{series_of, series_cmp}
 use Rattle.fd_scan.specs.RowPlaces.{row_at}
-use Rattle.fd_scan.specs.DistinctItems.{AreDistinct, last_series}
+use Rattle.fd_groups.specs.DistinctItems.{AreDistinct}
+use Rattle.fd_scan.specs.LastSeries.{last_series}
 use Rattle.fd_scan.proofs.DistinctItemLaws.{distinct_last, rows_more, series_cmp_total}
 use Rattle.fd_scan.proofs.series.add_behind.Goals as goal
 

@@ -3,7 +3,8 @@ use Rattle.std.specs.Prelude.{None, IfSome}
 use Rattle.fd_kinds.specs.declared.row.Row.{Row}
 use Rattle.fd_kinds.specs.Meaning.{series_of, series_cmp}
 use Rattle.fd_scan.specs.RowPlaces.{rows_at}
-use Rattle.fd_scan.specs.DistinctItems.{AreDistinct, last_series}
+use Rattle.fd_groups.specs.DistinctItems.{AreDistinct}
+use Rattle.fd_scan.specs.LastSeries.{last_series}
 use Rattle.fd_scan.proofs.series.add_series_at.Given as goal
 
 abbrev pub invariant-loop-at : goal.invariant-loop-at

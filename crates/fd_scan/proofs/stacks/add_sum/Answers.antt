@@ -1,13 +1,20 @@
-use Rattle.std.proofs.Common.{rules, ◌≡◌, List, Some, subst, sym}
+use Rattle.std.proofs.Common.{rules, ◌≡◌, ◌∙◌, List, Some, ap, subst, sym}
 use Rattle.std.specs.BTreeMap.{get}
 use Rattle.fd_kinds.specs.declared.row.Numbered.{Numbered}
 use Rattle.fd_kinds.specs.Meaning.{stack_cmp}
 use Rattle.fd_dictionary.specs.Dictionaries.{index_in}
 use Rattle.fd_column.specs.Cells.{column_texts}
-use Rattle.fd_scan.specs.StackSlots.{KnowsSlots, noted}
+use Rattle.fd_scan.specs.StackSlots.{KnowsSlots, known_slot, noted}
 use Rattle.fd_scan.specs.RowPlaces.{row_at}
 use Rattle.fd_scan.proofs.SlotTables.{knows_more}
 use Rattle.fd_scan.proofs.stacks.add_sum.Goals as goal
+
+pub add_known-requires : goal.add_known-requires
+add_known-requires g c =
+    let rows : List Numbered = g.C.Columns.rows c.args.columns.now in
+    let entry : c.index-entry.result ≡ index_in (column_texts rows 7) c.args.at = search rules in
+    let known : known_slot c.args.known.now.items c.index-entry.result ≡ Some c.in-Some.slot = search rules in
+    c.args.sums.now.inside.each (row_at rows c.args.at).stack c.in-Some.slot (c.requires.known.each c.args.at c.in-Some.slot c.requires.inside (ap (known_slot c.args.known.now.items) (sym entry) ∙ known))
 
 pub returns-in_ok-slot-in-None-clause-known : goal.returns-in_ok-slot-in-None-clause-known
 returns-in_ok-slot-in-None-clause-known g c =

@@ -1,6 +1,6 @@
 use Rattle.std.proofs.Common.{List, ◌++◌, take}
 use Rattle.fd_kinds.specs.declared.row.Row.{Row}
-use Rattle.fd_scan.specs.Groups.{AreSums}
+use Rattle.fd_groups.specs.Groups.{AreSums}
 use Rattle.fd_scan.specs.StackSlots.{KnowsSlots}
 use Rattle.fd_scan.specs.RowPlaces.{rows_at}
 use Rattle.fd_scan.proofs.stacks.add_sums.Given as goal

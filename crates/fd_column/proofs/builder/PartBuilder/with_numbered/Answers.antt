@@ -8,10 +8,10 @@ abbrev added : (c : goal.In_ok-push_row) → Numbered
 added c = record { number = c.args.number; row = c.args.row.now }
 
 table : (c : goal.In_ok-push_row) → IsTableOf c.push_row.new.table (rows_of_table c.self.inside.table ++ added c ∷ [])
-table c = table_grows c.self.inside.table c.push_row.new.table (rows_of_table c.self.inside.table) (added c) c.self.invariant.table c.in_ok-push_row.ensures.grows
+table c = table_grows c.self.inside.table c.push_row.new.table (rows_of_table c.self.inside.table) (added c) c.self.invariant.table c.in_ok-push_row.ensures
 
 held : (c : goal.In_ok-push_row) → AreHeld (rows_of_table c.self.inside.table ++ added c ∷ [])
-held c = held_more (rows_of_table c.self.inside.table) (added c) c.self.invariant.held c.requires c.in_ok-push_row.ensures.short c.row_is_utf8.ensures
+held c = held_more (rows_of_table c.self.inside.table) (added c) c.self.invariant.held c.requires.number c.requires.short c.row_is_utf8.ensures
 
 pub invariant_of-result : goal.invariant_of-result
 invariant_of-result c = growing_from c.push_row.new.table _ (table c) (held c)

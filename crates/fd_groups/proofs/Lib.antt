@@ -1,0 +1,6 @@
+pub mod GroupLaws
+pub mod LabelKeys
+pub mod Outcomes
+pub mod RangeLaws
+pub mod SlotLaws
+pub mod SumLaws

@@ -1,0 +1,4 @@
+pub mod Additions
+pub mod DistinctItems
+pub mod Groups
+pub mod Slots

@@ -1,5 +1,0 @@
-use Rattle.std.proofs.Common.{rules}
-use Rattle.fd_scan.proofs.sums.added.Goals as goal
-
-pub returns-in_ok-sum-in-Some : goal.returns-in_ok-sum-in-Some
-returns-in_ok-sum-in-Some g c = record { rising = search rules; each = search rules }

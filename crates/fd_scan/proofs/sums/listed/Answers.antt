@@ -1,8 +1,0 @@
-use Rattle.std.proofs.Common.{rules, ◌≡◌, ◌∙◌, map}
-use Rattle.fd_scan.proofs.SlotLaws.{to_sum, sums_from_map}
-use Rattle.fd_scan.proofs.sums.listed.Goals as goal
-
-pub returns : goal.returns
-returns c =
-    let e : c.loop-stack.list ≡ map (to_sum c.args.sums.now) c.args.slots.entries = search rules in
-    λ rows summed. e ∙ sums_from_map c.args.slots c.args.sums.now rows summed

@@ -1,6 +1,0 @@
-use Rattle.std.proofs.Common.{◌≡◌, ◌++◌, map}
-use Rattle.fd_scan.proofs.SlotLaws.{to_sum}
-use Rattle.fd_scan.proofs.sums.listed.Given as goal
-
-abbrev pub invariant-loop-stack : goal.invariant-loop-stack
-invariant-loop-stack l = l.list ++ map (to_sum l.sums) l.stack-iterator ≡ map (to_sum l.sums) l.fn.slots.entries
