@@ -18,7 +18,7 @@ use Rattle.fd_api.specs.declared.demand.Demand.TheVariants as asked
 use Rattle.fd_api.specs.declared.note.Note.{Note}
 use Rattle.fd_api.specs.declared.note.Note.TheVariants.{Read, Stood, NotDrawn, Spent, Refused, Faulted, Short}
 use Rattle.fd_api.specs.Effects.{TellsWrite, TellsRead, Does, Handles}
-use Rattle.std.specs.declared.option.Option.{Option}
+use Rattle.fd_api.specs.Streams.{Streams}
 use Rattle.fd_api.specs.declared.sessions.EndKind.{EndKind}
 use Rattle.fd_api.specs.Sessions.{MOST_REQUESTS, Runs, Ends}
 use Rattle.fd_api.specs.Accounts.{Accounts}
@@ -124,12 +124,12 @@ alone_runs old room requests notes new output run =
       accounts = subst (λ (ws : List Written). Accounts (history_of new) room requests notes ws output) (append_cancel_left (alone old).own ran.written (numbered_from (1 + count_of old) tallied.0.more) own) ran.accounts;
     }
 
-pub alone_session : (left_old left_new taken_old taken_new : Option (List ℕ)) (before now : ℕ) (old : LocalView) (notes : List Note) (new : LocalView) (end : EndKind)
-    → Ends Writes Reads Stands left_old left_new taken_old taken_new before now old notes new end → AloneSessionRan left_old left_new taken_old taken_new before now old notes new end
-alone_session left_old left_new taken_old taken_new before now old notes new end ends = record {
+pub alone_session : (old new : Streams) (first : LocalView) (notes : List Note) (last : LocalView) (end : EndKind)
+    → Ends Writes Reads Stands old new first notes last end → AloneSessionRan old new first notes last end
+alone_session old new first notes last end ends = record {
   requests = ends.requests;
   output = ends.output;
   read = ends.read;
-  ran = alone_runs old MOST_REQUESTS ends.requests notes new ends.output ends.run;
+  ran = alone_runs first MOST_REQUESTS ends.requests notes last ends.output ends.run;
   written = ends.written;
 }

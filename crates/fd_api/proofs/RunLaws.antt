@@ -24,7 +24,7 @@ use Rattle.fd_api.specs.Demands.{Asks}
 use Rattle.fd_api.specs.Effects.{TellsWrite, TellsRead, Does, Handles}
 use Rattle.fd_api.specs.Sessions.{MOST_REQUESTS, Runs, Ends}
 use Rattle.fd_api.specs.declared.sessions.EndKind.{EndKind}
-use Rattle.std.specs.declared.option.Option.{Option}
+use Rattle.fd_api.specs.Streams.{Streams}
 use Rattle.fd_api.specs.Accounts.{Says, Fits, AllRise, Climb, Ran, SessionRan}
 
 -- the first batches stay when more come behind them
@@ -230,12 +230,12 @@ module _ {S : Type 0} (write_gives : S → List Row → Result ℕ WriteRefusal 
         );
       }
 
-  pub session : (left_old left_new taken_old taken_new : Option (List ℕ)) (before now : ℕ) (old : S) (notes : List Note) (new : S) (end : EndKind)
-      → Ends write_gives read_gives stand_gives left_old left_new taken_old taken_new before now old notes new end → SessionRan left_old left_new taken_old taken_new before now (sees old) notes (sees new) end
-  session left_old left_new taken_old taken_new before now old notes new end ends = record {
+  pub session : (old new : Streams) (first : S) (notes : List Note) (last : S) (end : EndKind)
+      → Ends write_gives read_gives stand_gives old new first notes last end → SessionRan old new (sees first) notes (sees last) end
+  session old new first notes last end ends = record {
     requests = ends.requests;
     output = ends.output;
     read = ends.read;
-    ran = runs old MOST_REQUESTS ends.requests notes new ends.output ends.run;
+    ran = runs first MOST_REQUESTS ends.requests notes last ends.output ends.run;
     written = ends.written;
   }

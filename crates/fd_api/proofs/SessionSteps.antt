@@ -25,17 +25,15 @@ use Rattle.fd_http.specs.Prefixes.{Leads}
 use Rattle.fd_http.specs.Remainders.{IfTold, Given}
 use Rattle.fd_http.specs.declared.request.RequestFault.{RequestFault}
 use Rattle.fd_http.specs.declared.request.RequestFault.TheVariants as head
-use Rattle.fd_json.specs.declared.refusal.Fault.{Fault}
-use Rattle.fd_json.specs.declared.refusal.Fault.TheVariants as fault
 use Rattle.fd_device.specs.declared.sink.Put.{Put}
 use Rattle.fd_device.specs.declared.sink.Put.TheVariants.{Done, Failed}
 use Rattle.fd_device.specs.Streams.{PutCause}
 use Rattle.fd_api.specs.declared.note.Note.{Note}
 use Rattle.fd_api.specs.declared.sessions.EndKind.{EndKind}
 use Rattle.fd_api.specs.declared.sessions.EndKind.TheVariants as kind
-use Rattle.fd_api.specs.Replies.{IsSent, refusal}
-use Rattle.fd_api.specs.Sessions.{MOST_REQUESTS, Runs, Serves, Served, Ends, SinkCause, is_last, is_faulted, Begins, IsSplit, IsBegun, IsDrained, AppendsThen}
-use Rattle.fd_api.specs.Turns.{PutsReply, Turned, Unturned, NoRequest, EndsAt, Silent, Turns, after_put}
+use Rattle.fd_api.specs.Streams.{Streams}
+use Rattle.fd_api.specs.Sessions.{MOST_REQUESTS, Runs, Serves, Ends, SinkCause, is_last, is_faulted, Begins, IsSplit, IsBegun, IsDrained, IsDismissal, TakesThen}
+use Rattle.fd_api.specs.Turns.{TurnState, between, ReadsNext, HasGiven, PutsReply, Turned, Unturned, NoRequest, EndsAt, Silent, Turns, after_put}
 use Rattle.fd_api.proofs.InputSteps.{HasRead, HasSplit, leads_none, has_read_more, has_read_close, has_read_end, has_read_refused, has_read_limit, given_push, given_all}
 use Rattle.fd_api.proofs.SinkLemmas.{Appends-Keeps}
 
@@ -129,227 +127,247 @@ module _ {S : Type 0} (write_gives : S → List Row → Result ℕ WriteRefusal 
       )
 
   -- the requests so far, with room for so many more
-  pub record SoFar (left_old left_now : Option (List ℕ)) (inbox : List ℕ) (taken_old taken_now : Option (List ℕ)) (old now : S) (notes : List Note) (room : ℕ) : Type 0 where
+  pub record SoFar (old : Streams) (first : S) (now : TurnState S) (room : ℕ) : Type 0 where
     pub requests : List Request
     pub output : List ℕ
-    pub read : HasRead left_old left_now [] inbox requests room
-    pub given : Given left_old left_now [] (λ given. Leads requests MOST_REQUESTS given room inbox)
+    pub read : HasRead old.input.told now.streams.input.told [] now.inbox requests room
+    pub given : Given old.input.told now.streams.input.told [] (λ given. Leads requests MOST_REQUESTS given room now.inbox)
     pub count : length requests + room ≡ MOST_REQUESTS
-    pub run : Runs write_gives read_gives stand_gives old MOST_REQUESTS requests notes now output
-    pub written : Appends taken_old taken_now output
+    pub run : Runs write_gives read_gives stand_gives first MOST_REQUESTS requests now.notes now.store output
+    pub written : Appends old.output.told now.streams.output.told output
 
   -- no turn yet
-  pub none_yet : (left taken : Option (List ℕ)) (store : S) (notes : List Note) → notes ≡ [] → SoFar left left [] taken taken store store notes MOST_REQUESTS
-  none_yet left taken store notes none = record {
+  pub none_yet : (old : Streams) (store : S) (notes : List Note) → notes ≡ [] → SoFar old store (between old [] notes store) MOST_REQUESTS
+  none_yet old store notes none = record {
     requests = [];
     output = [];
-    read = nothing_read left;
-    given = record { bytes = []; consumed = Consumes-nil left; holds = (refl, refl) };
+    read = nothing_read old.input.told;
+    given = record { bytes = []; consumed = Consumes-nil old.input.told; holds = (refl, refl) };
     count = refl;
     run = subst (λ (ns : List Note). Runs write_gives read_gives stand_gives store MOST_REQUESTS [] ns store []) (sym none) (refl, refl);
-    written = Appends-nil taken;
+    written = Appends-nil old.output.told;
   }
 
-  -- one more request, which was replied to
-  abbrev with_turn : (left_old left_mid left_now : Option (List ℕ)) (inbox_mid inbox : List ℕ) (taken_old taken_mid taken_now : Option (List ℕ)) (before now_count : ℕ) (old mid now : S) (notes_mid notes : List Note) (room : ℕ) (end : Option EndKind)
-      → (so_far : SoFar left_old left_mid inbox_mid taken_old taken_mid old mid notes_mid room) → 0 < room
-      → (t : Turned write_gives read_gives stand_gives left_mid left_now inbox_mid inbox taken_mid taken_now before now_count mid now notes_mid notes (room == 1) end)
-      → Runs write_gives read_gives stand_gives old MOST_REQUESTS (so_far.requests ++ t.request ∷ []) notes now (so_far.output ++ t.bytes)
-  with_turn left_old left_mid left_now inbox_mid inbox taken_old taken_mid taken_now before now_count old mid now notes_mid notes room end so_far some t =
-      subst (λ (ns : List Note). Runs write_gives read_gives stand_gives old MOST_REQUESTS (so_far.requests ++ t.request ∷ []) ns now (so_far.output ++ t.bytes)) (sym t.noted)
-      (runs_push so_far.requests notes_mid old mid now MOST_REQUESTS room so_far.output t.bytes t.request t.note so_far.run so_far.count some t.serves)
+  module _ (old : Streams) (first : S) (mid now : TurnState S) (room : ℕ) (so_far : SoFar old first mid room) (some : 0 < room) where
+    abbrev left_old : Option (List ℕ)
+    left_old = old.input.told
 
-  pub goes_on : (left_old left_mid left_now : Option (List ℕ)) (inbox_mid inbox : List ℕ) (taken_old taken_mid taken_now : Option (List ℕ)) (before now_count : ℕ) (old mid now : S) (notes_mid notes : List Note) (room : ℕ)
-      → SoFar left_old left_mid inbox_mid taken_old taken_mid old mid notes_mid room → 0 < room
-      → Turned write_gives read_gives stand_gives left_mid left_now inbox_mid inbox taken_mid taken_now before now_count mid now notes_mid notes (room == 1) None
-      → SoFar left_old left_now inbox taken_old taken_now old now notes (room - 1) × (now_count ≡ before)
-  goes_on left_old left_mid left_now inbox_mid inbox taken_old taken_mid taken_now before now_count old mid now notes_mid notes room so_far some t =
-      let going = goes_on_from (is_faulted t.note) t.request.close t.put (sym t.goes) in
-      let sent : Appends taken_mid taken_now t.bytes = subst (PutsReply taken_mid taken_now t.bytes) going.1 t.sent in
-      let kept : now_count ≡ before = subst (PutCause before now_count) going.1 t.count in (
-        record {
-          requests = so_far.requests ++ t.request ∷ [];
-          output = so_far.output ++ t.bytes;
-          read = has_read_more left_old left_mid left_now [] inbox_mid inbox so_far.requests room t.request so_far.read some t.arrives going.2;
-          given = given_push left_old left_mid left_now inbox_mid inbox so_far.requests room t.request so_far.given some t.given going.2;
-          count = omega (arith, length-append so_far.requests (t.request ∷ []), so_far.count);
-          run = with_turn left_old left_mid left_now inbox_mid inbox taken_old taken_mid taken_now before now_count old mid now notes_mid notes room None so_far some t;
-          written = Appends-trans taken_old taken_mid taken_now so_far.output t.bytes so_far.written sent;
-        },
-        kept,
-      )
+    abbrev left_mid : Option (List ℕ)
+    left_mid = mid.streams.input.told
 
-  module _ (left_old left_mid left_now : Option (List ℕ)) (inbox_mid inbox : List ℕ) (taken_old taken_mid taken_now : Option (List ℕ)) (before mid_count now_count : ℕ) (same_count : mid_count ≡ before) (old mid now : S) (notes_mid notes : List Note) (room : ℕ) (so_far : SoFar left_old left_mid inbox_mid taken_old taken_mid old mid notes_mid room) (some : 0 < room) where
-    abbrev Finish : EndKind → Type 0
-    Finish e = Ends write_gives read_gives stand_gives left_old left_now taken_old taken_now before now_count old notes now e × SinkCause before now_count e
+    abbrev left_now : Option (List ℕ)
+    left_now = now.streams.input.told
 
-    module _ (end : Option EndKind) (t : Turned write_gives read_gives stand_gives left_mid left_now inbox_mid inbox taken_mid taken_now mid_count now_count mid now notes_mid notes (room == 1) end) where
+    abbrev taken_old : Option (List ℕ)
+    taken_old = old.output.told
+
+    abbrev taken_mid : Option (List ℕ)
+    taken_mid = mid.streams.output.told
+
+    abbrev taken_now : Option (List ℕ)
+    taken_now = now.streams.output.told
+
+    module _ (end : Option EndKind) (t : Turned write_gives read_gives stand_gives mid now (room == 1) end) where
       abbrev requests : List Request
       requests = so_far.requests ++ t.request ∷ []
 
-      run : Runs write_gives read_gives stand_gives old MOST_REQUESTS requests notes now (so_far.output ++ t.bytes)
-      run = with_turn left_old left_mid left_now inbox_mid inbox taken_old taken_mid taken_now mid_count now_count old mid now notes_mid notes room end so_far some t
+      abbrev output : List ℕ
+      output = so_far.output ++ t.bytes
+
+      -- one more request, which was replied to
+      run : Runs write_gives read_gives stand_gives first MOST_REQUESTS requests now.notes now.store output
+      run =
+          subst (λ (ns : List Note). Runs write_gives read_gives stand_gives first MOST_REQUESTS requests ns now.store output) (sym t.noted)
+          (runs_push so_far.requests mid.notes first mid.store now.store MOST_REQUESTS room so_far.output t.bytes t.request t.note so_far.run so_far.count some t.serves)
 
       begun : IsBegun left_old requests
-      begun = begun_from left_old left_mid left_now inbox_mid inbox so_far.requests room t.request so_far.read some t.arrives t.request.close refl
+      begun = begun_from left_old left_mid left_now mid.inbox now.inbox so_far.requests room t.request so_far.read some t.arrives t.request.close refl
 
-      -- the disk failed: the reply to that was written, or not
-      failed : (put : Put) → PutsReply taken_mid taken_now t.bytes put → PutCause mid_count now_count put → Finish kind.DiskFault
-      failed Done sent kept =
-          let same : now_count ≡ before = kept ∙ same_count in (
-            record { requests = requests; output = so_far.output ++ t.bytes; read = begun; run = run; written = inl (Appends-trans taken_old taken_mid taken_now so_far.output t.bytes so_far.written sent, same) },
-            inl same,
-          )
-      failed Failed sent rose =
-          let up : Rose before now_count = subst (λ (n : ℕ). Rose n now_count) same_count rose in (
-            record { requests = requests; output = so_far.output ++ t.bytes; read = begun; run = run; written = inr (front_more taken_old taken_mid taken_now so_far.output t.bytes so_far.written sent, up) },
-            inr up,
-          )
+    goes_on : Turned write_gives read_gives stand_gives mid now (room == 1) None → SoFar old first now (room - 1) × (now.streams.output.faults ≡ mid.streams.output.faults)
+    goes_on t =
+        let going = goes_on_from (is_faulted t.note) t.request.close t.put (sym t.goes) in
+        let sent : Appends taken_mid taken_now t.bytes = subst (PutsReply taken_mid taken_now t.bytes) going.1 t.sent in
+        let kept : now.streams.output.faults ≡ mid.streams.output.faults = subst (PutCause mid.streams.output.faults now.streams.output.faults) going.1 t.count in (
+          record {
+            requests = requests None t;
+            output = output None t;
+            read = has_read_more left_old left_mid left_now [] mid.inbox now.inbox so_far.requests room t.request so_far.read some t.arrives going.2;
+            given = given_push left_old left_mid left_now mid.inbox now.inbox so_far.requests room t.request so_far.given some t.given going.2;
+            count = omega (arith, length-append so_far.requests (t.request ∷ []), so_far.count);
+            run = run None t;
+            written = Appends-trans taken_old taken_mid taken_now so_far.output t.bytes so_far.written sent;
+          },
+          kept,
+        )
 
-      ended_by : (faulted close : Bool) (put : Put) (e : EndKind) → t.request.close ≡ close → PutsReply taken_mid taken_now t.bytes put → PutCause mid_count now_count put
-          → Some e ≡ cond faulted (Some kind.DiskFault) (after_put close put) → Finish e
-      ended_by true close put e closes sent cause is = let same : kind.DiskFault ≡ e = cc in subst Finish same (failed put sent cause)
-      ended_by false close Failed e closes sent rose is =
-          let same : kind.WriteFault ≡ e = cc in
-          subst Finish same (
-            record { requests = requests; output = so_far.output ++ t.bytes; read = begun; run = run; written = inl (front_more taken_old taken_mid taken_now so_far.output t.bytes so_far.written sent) },
-            subst (λ (n : ℕ). Rose n now_count) same_count rose,
-          )
-      ended_by false true Done e closes sent kept is =
-          let same : kind.Closed ≡ e = cc in
-          subst Finish same (
-            record {
-              requests = requests;
-              output = so_far.output ++ t.bytes;
-              read = split_from left_old left_now inbox requests closed (has_read_close left_old left_mid left_now [] inbox_mid inbox so_far.requests room t.request so_far.read some t.arrives closes);
-              run = run;
-              written = Appends-trans taken_old taken_mid taken_now so_far.output t.bytes so_far.written sent;
-            },
-            kept ∙ same_count,
-          )
-      ended_by false false Done e closes sent kept is = cc
+    module _ (same_count : mid.streams.output.faults ≡ old.output.faults) where
+      abbrev before : ℕ
+      before = old.output.faults
 
-    pub turned_ends : (e : EndKind) → Turned write_gives read_gives stand_gives left_mid left_now inbox_mid inbox taken_mid taken_now mid_count now_count mid now notes_mid notes (room == 1) (Some e) → Finish e
-    turned_ends e t = ended_by (Some e) t (is_faulted t.note) t.request.close t.put e refl t.sent t.count t.goes
+      abbrev now_count : ℕ
+      now_count = now.streams.output.faults
 
-    module _ (end : Option EndKind) (u : Unturned write_gives read_gives stand_gives left_mid left_now inbox_mid inbox taken_mid taken_now mid_count now_count mid now notes_mid notes end) where
-      run_so_far : Runs write_gives read_gives stand_gives old MOST_REQUESTS so_far.requests notes now so_far.output
-      run_so_far =
-          subst (λ (x : S). Runs write_gives read_gives stand_gives old MOST_REQUESTS so_far.requests notes x so_far.output) (sym u.store)
-          (subst (λ (ns : List Note). Runs write_gives read_gives stand_gives old MOST_REQUESTS so_far.requests ns mid so_far.output) (sym u.noted) so_far.run)
+      abbrev Finish : EndKind → Type 0
+      Finish e = Ends write_gives read_gives stand_gives old now.streams first now.notes now.store e × SinkCause before now_count e
 
-      begins : Begins left_old so_far.requests
-      begins = begins_from left_old left_mid inbox_mid so_far.requests room so_far.read
+      -- what rose since the turn before rose since the begin
+      rose_since : Rose mid.streams.output.faults now_count → Rose before now_count
+      rose_since rose = subst (λ (n : ℕ). Rose n now_count) same_count rose
 
-      silent : Silent taken_mid taken_now mid_count now_count → Appends taken_old taken_now so_far.output
-      silent s = Appends-Keeps taken_old taken_mid taken_now so_far.output so_far.written s.taken
+      module _ (end : Option EndKind) (t : Turned write_gives read_gives stand_gives mid now (room == 1) end) where
+        -- the disk failed: the reply to that was written, or not
+        failed : (put : Put) → PutsReply taken_mid taken_now t.bytes put → PutCause mid.streams.output.faults now_count put → Finish kind.DiskFault
+        failed Done sent kept =
+            let same : now_count ≡ before = kept ∙ same_count in (
+              record { requests = requests end t; output = output end t; read = begun end t; run = run end t; written = inl (Appends-trans taken_old taken_mid taken_now so_far.output t.bytes so_far.written sent, same) },
+              inl same,
+            )
+        failed Failed sent rose = (
+          record { requests = requests end t; output = output end t; read = begun end t; run = run end t; written = inr (front_more taken_old taken_mid taken_now so_far.output t.bytes so_far.written sent, rose_since rose) },
+          inr (rose_since rose),
+        )
 
-      split_refused : (f : RequestFault) → IfTold left_mid left_now inbox_mid inbox (λ rest after. Holds rest (refused f)) → IsSplit left_old so_far.requests (refused_as f)
-      split_refused f holds = split_from left_old left_now inbox so_far.requests (refused_as f) (has_read_refused left_old left_mid left_now [] inbox_mid inbox so_far.requests room f so_far.read some holds)
+        ended_by : (faulted close : Bool) (put : Put) (e : EndKind) → t.request.close ≡ close → PutsReply taken_mid taken_now t.bytes put → PutCause mid.streams.output.faults now_count put
+            → Some e ≡ cond faulted (Some kind.DiskFault) (after_put close put) → Finish e
+        ended_by true close put e closes sent cause is = let same : kind.DiskFault ≡ e = cc in subst Finish same (failed put sent cause)
+        ended_by false close Failed e closes sent rose is =
+            let same : kind.WriteFault ≡ e = cc in
+            subst Finish same (
+              record { requests = requests end t; output = output end t; read = begun end t; run = run end t; written = inl (front_more taken_old taken_mid taken_now so_far.output t.bytes so_far.written sent) },
+              rose_since rose,
+            )
+        ended_by false true Done e closes sent kept is =
+            let same : kind.Closed ≡ e = cc in
+            subst Finish same (
+              record {
+                requests = requests end t;
+                output = output end t;
+                read = split_from left_old left_now now.inbox (requests end t) closed (has_read_close left_old left_mid left_now [] mid.inbox now.inbox so_far.requests room t.request so_far.read some t.arrives closes);
+                run = run end t;
+                written = Appends-trans taken_old taken_mid taken_now so_far.output t.bytes so_far.written sent;
+              },
+              kept ∙ same_count,
+            )
+        ended_by false false Done e closes sent kept is = cc
 
-      -- the one reply to a head that is refused was not written
-      unwritten : (f : Fault) → Rose mid_count now_count → (last : List ℕ) → IsSent true (refusal f) last → AppendsFront taken_mid taken_now last → Finish kind.WriteFault
-      unwritten f rose last sent front = (
-        record { requests = so_far.requests; output = so_far.output; read = inl begins; run = run_so_far; written = inr (f, last, sent, front_more taken_old taken_mid taken_now so_far.output last so_far.written front) },
-        subst (λ (n : ℕ). Rose n now_count) same_count rose,
-      )
+      turned_ends : (e : EndKind) → Turned write_gives read_gives stand_gives mid now (room == 1) (Some e) → Finish e
+      turned_ends e t = ended_by (Some e) t (is_faulted t.note) t.request.close t.put e refl t.sent t.count t.goes
 
-      -- it was written
-      dismissed : (head : RequestFault) (f : Fault) → IsSplit left_old so_far.requests (refused_as head) → (last : List ℕ) → IsSent true (refusal f) last → Appends taken_mid taken_now last
-          → Served write_gives read_gives stand_gives (λ requests. IsSplit left_old requests (refused_as head)) old notes now (AppendsThen taken_old taken_now f)
-      dismissed head f split last sent more = record {
-        requests = so_far.requests;
-        output = so_far.output;
-        read = split;
-        run = run_so_far;
-        written = (last, sent, Appends-trans taken_old taken_mid taken_now so_far.output last so_far.written more);
-      }
+      module _ (end : Option EndKind) (u : Unturned write_gives read_gives stand_gives mid now end) where
+        run_so_far : Runs write_gives read_gives stand_gives first MOST_REQUESTS so_far.requests now.notes now.store so_far.output
+        run_so_far =
+            subst (λ (x : S). Runs write_gives read_gives stand_gives first MOST_REQUESTS so_far.requests now.notes x so_far.output) (sym u.store)
+            (subst (λ (ns : List Note). Runs write_gives read_gives stand_gives first MOST_REQUESTS so_far.requests ns mid.store so_far.output) (sym u.noted) so_far.run)
 
-      -- memory was wanting: the reply to that was written, or not
-      gave_up : (put : Put) → PutsReply taken_mid taken_now (reply_bytes (response.Short true)) put → PutCause mid_count now_count put → Finish kind.NoMemory
-      gave_up Done sent kept = (
-        record {
-          requests = so_far.requests;
-          output = so_far.output;
-          read = begins;
-          run = run_so_far;
-          written = inl (Appends-trans taken_old taken_mid taken_now so_far.output _ so_far.written sent, kept ∙ same_count);
-        },
-        inl (kept ∙ same_count),
-      )
-      gave_up Failed front rose =
-          let up : Rose before now_count = subst (λ (n : ℕ). Rose n now_count) same_count rose in (
-            record {
-              requests = so_far.requests;
-              output = so_far.output;
-              read = begins;
-              run = run_so_far;
-              written = inr (front.0, front.1, Appends-trans taken_old taken_mid taken_now so_far.output _ so_far.written front.2, up);
-            },
-            inr up,
-          )
+        begins : Begins left_old so_far.requests
+        begins = begins_from left_old left_mid mid.inbox so_far.requests room so_far.read
 
-      refused_ends : (f : RequestFault) (e : EndKind) → Arrives left_mid left_now inbox_mid inbox (Err f) → AtReadFault f (Given left_mid left_now inbox_mid IsUnfinished)
-          → EndsAt taken_mid taken_now mid_count now_count f e → Finish e
-      refused_ends head.BadHead e arrives given (inl (is, kept, last, sent, more)) = subst Finish (sym is) (dismissed head.BadHead fault.BadHead (split_refused head.BadHead arrives) last sent more, kept ∙ same_count)
-      refused_ends head.BadHead e arrives given (inr (is, rose, last, sent, front)) = subst Finish (sym is) (unwritten fault.BadHead rose last sent front)
-      refused_ends head.NoLength e arrives given (inl (is, kept, last, sent, more)) = subst Finish (sym is) (dismissed head.NoLength fault.NoLength (split_refused head.NoLength arrives) last sent more, kept ∙ same_count)
-      refused_ends head.NoLength e arrives given (inr (is, rose, last, sent, front)) = subst Finish (sym is) (unwritten fault.NoLength rose last sent front)
-      refused_ends head.TooLarge e arrives given (inl (is, kept, last, sent, more)) = subst Finish (sym is) (dismissed head.TooLarge fault.TooLarge (split_refused head.TooLarge arrives) last sent more, kept ∙ same_count)
-      refused_ends head.TooLarge e arrives given (inr (is, rose, last, sent, front)) = subst Finish (sym is) (unwritten fault.TooLarge rose last sent front)
-      refused_ends head.Cut e arrives given (is, s) =
-          subst Finish (sym is) (record { requests = so_far.requests; output = so_far.output; read = split_refused head.Cut arrives; run = run_so_far; written = silent s }, s.count ∙ same_count)
-      refused_ends head.ReadFault e arrives given (is, s) =
-          subst Finish (sym is) (record { requests = so_far.requests; output = so_far.output; read = (begins, given_all left_old left_mid left_now inbox_mid so_far.requests room so_far.given some given); run = run_so_far; written = silent s }, s.count ∙ same_count)
-      refused_ends head.NoMemory e arrives given (is, short) = subst Finish (sym is) (gave_up short.0 short.1 short.2)
+        silent : Silent mid.streams.output now.streams.output → Appends taken_old taken_now so_far.output
+        silent s = Appends-Keeps taken_old taken_mid taken_now so_far.output so_far.written s.taken
 
-      ended : Arrives left_mid left_now inbox_mid inbox (Ok arrived.End) → Silent taken_mid taken_now mid_count now_count → Finish kind.Ended
-      ended arrives s = (
-        record {
-          requests = so_far.requests;
-          output = so_far.output;
-          read = (
-            split_from left_old left_now inbox so_far.requests ends.ended (has_read_end left_old left_mid left_now [] inbox_mid inbox so_far.requests room so_far.read some arrives),
-            drained_from left_old left_mid left_now inbox_mid inbox so_far.requests room so_far.read arrives,
-          );
-          run = run_so_far;
-          written = silent s;
-        },
-        s.count ∙ same_count,
-      )
+        split_refused : (f : RequestFault) → IfTold left_mid left_now mid.inbox now.inbox (λ rest after. Holds rest (refused f)) → IsSplit left_old so_far.requests (refused_as f)
+        split_refused f holds = split_from left_old left_now now.inbox so_far.requests (refused_as f) (has_read_refused left_old left_mid left_now [] mid.inbox now.inbox so_far.requests room f so_far.read some holds)
 
-      how_ends : (e : EndKind) → NoRequest left_mid left_now inbox_mid inbox taken_mid taken_now mid_count now_count e → Finish e
-      how_ends e (inl (is, arrives, s)) = subst Finish (sym is) (ended arrives s)
-      how_ends e (inr (f, arrives, given, ends)) = refused_ends f e arrives given ends
+        -- the one reply to a head that is refused was not written
+        unwritten : (f : RequestFault) → IsSplit left_old so_far.requests (refused_as f) → Rose mid.streams.output.faults now_count
+            → (last : List ℕ) → IsDismissal f last → AppendsFront taken_mid taken_now last → Finish kind.WriteFault
+        unwritten f split rose last sent front = (
+          record {
+            requests = so_far.requests;
+            output = so_far.output;
+            read = inl begins;
+            run = run_so_far;
+            written = inr (f, split, last, sent, front_more taken_old taken_mid taken_now so_far.output last so_far.written front);
+          },
+          rose_since rose,
+        )
 
-    pub unturned_ends : (e : EndKind) → Unturned write_gives read_gives stand_gives left_mid left_now inbox_mid inbox taken_mid taken_now mid_count now_count mid now notes_mid notes (Some e) → Finish e
-    unturned_ends e u = let same : u.kind ≡ e = cc in subst Finish same (how_ends (Some e) u u.kind u.how)
+        -- it was written
+        written_last : (f : RequestFault) → (last : List ℕ) → IsDismissal f last → Appends taken_mid taken_now last → TakesThen old.output now.streams.output f so_far.output
+        written_last f last sent more = (last, sent, Appends-trans taken_old taken_mid taken_now so_far.output last so_far.written more)
 
-    pub turn_ends : (last : Bool) (e : EndKind) → last ≡ (room == 1) → Turns write_gives read_gives stand_gives left_mid left_now inbox_mid inbox taken_mid taken_now mid_count now_count mid now notes_mid notes last (Some e) → Finish e
-    turn_ends last e is turns = by (subst (λ (b : Bool). Turns write_gives read_gives stand_gives left_mid left_now inbox_mid inbox taken_mid taken_now mid_count now_count mid now notes_mid notes b (Some e)) is turns)
-      where
-        by : Turns write_gives read_gives stand_gives left_mid left_now inbox_mid inbox taken_mid taken_now mid_count now_count mid now notes_mid notes (room == 1) (Some e) → Finish e
-        by (inl t) = turned_ends e t
-        by (inr u) = unturned_ends e u
+        -- memory was wanting: the reply to that was written, or not
+        gave_up : (put : Put) → PutsReply taken_mid taken_now (reply_bytes (response.Short true)) put → PutCause mid.streams.output.faults now_count put → Finish kind.NoMemory
+        gave_up Done sent kept = (
+          record {
+            requests = so_far.requests;
+            output = so_far.output;
+            read = begins;
+            run = run_so_far;
+            written = inl (Appends-trans taken_old taken_mid taken_now so_far.output _ so_far.written sent, kept ∙ same_count);
+          },
+          inl (kept ∙ same_count),
+        )
+        gave_up Failed front rose = (
+          record {
+            requests = so_far.requests;
+            output = so_far.output;
+            read = begins;
+            run = run_so_far;
+            written = inr (front.0, front.1, Appends-trans taken_old taken_mid taken_now so_far.output _ so_far.written front.2, rose_since rose);
+          },
+          inr (rose_since rose),
+        )
 
-    pub turn_goes_on : (last : Bool) → last ≡ (room == 1) → Turns write_gives read_gives stand_gives left_mid left_now inbox_mid inbox taken_mid taken_now mid_count now_count mid now notes_mid notes last None
-        → SoFar left_old left_now inbox taken_old taken_now old now notes (room - 1) × (now_count ≡ before)
-    turn_goes_on last is turns = by (subst (λ (b : Bool). Turns write_gives read_gives stand_gives left_mid left_now inbox_mid inbox taken_mid taken_now mid_count now_count mid now notes_mid notes b None) is turns)
-      where
-        by : Turns write_gives read_gives stand_gives left_mid left_now inbox_mid inbox taken_mid taken_now mid_count now_count mid now notes_mid notes (room == 1) None → SoFar left_old left_now inbox taken_old taken_now old now notes (room - 1) × (now_count ≡ before)
-        by (inl t) =
-            let on = goes_on left_old left_mid left_now inbox_mid inbox taken_old taken_mid taken_now mid_count now_count old mid now notes_mid notes room so_far some t in
-            (on.0, on.1 ∙ same_count)
-        by (inr u) = let never = u.ends in cc
+        refused_ends : (f : RequestFault) (e : EndKind) → ReadsNext mid now (Err f) → AtReadFault f (HasGiven mid now IsUnfinished)
+            → EndsAt mid.streams.output now.streams.output f e → Finish e
+        refused_ends head.BadHead e arrives given (inl (is, kept, last, sent, more)) =
+            subst Finish (sym is) (record { requests = so_far.requests; output = so_far.output; read = split_refused head.BadHead arrives; run = run_so_far; written = written_last head.BadHead last sent more }, kept ∙ same_count)
+        refused_ends head.BadHead e arrives given (inr (is, rose, last, sent, front)) = subst Finish (sym is) (unwritten head.BadHead (split_refused head.BadHead arrives) rose last sent front)
+        refused_ends head.NoLength e arrives given (inl (is, kept, last, sent, more)) =
+            subst Finish (sym is) (record { requests = so_far.requests; output = so_far.output; read = split_refused head.NoLength arrives; run = run_so_far; written = written_last head.NoLength last sent more }, kept ∙ same_count)
+        refused_ends head.NoLength e arrives given (inr (is, rose, last, sent, front)) = subst Finish (sym is) (unwritten head.NoLength (split_refused head.NoLength arrives) rose last sent front)
+        refused_ends head.TooLarge e arrives given (inl (is, kept, last, sent, more)) =
+            subst Finish (sym is) (record { requests = so_far.requests; output = so_far.output; read = split_refused head.TooLarge arrives; run = run_so_far; written = written_last head.TooLarge last sent more }, kept ∙ same_count)
+        refused_ends head.TooLarge e arrives given (inr (is, rose, last, sent, front)) = subst Finish (sym is) (unwritten head.TooLarge (split_refused head.TooLarge arrives) rose last sent front)
+        refused_ends head.Cut e arrives given (is, s) =
+            subst Finish (sym is) (record { requests = so_far.requests; output = so_far.output; read = split_refused head.Cut arrives; run = run_so_far; written = silent s }, s.count ∙ same_count)
+        refused_ends head.ReadFault e arrives given (is, s) =
+            subst Finish (sym is) (record { requests = so_far.requests; output = so_far.output; read = (begins, given_all left_old left_mid left_now mid.inbox so_far.requests room so_far.given some given); run = run_so_far; written = silent s }, s.count ∙ same_count)
+        refused_ends head.NoMemory e arrives given (is, short) = subst Finish (sym is) (gave_up short.0 short.1 short.2)
+
+        ended : ReadsNext mid now (Ok arrived.End) → Silent mid.streams.output now.streams.output → Finish kind.Ended
+        ended arrives s = (
+          record {
+            requests = so_far.requests;
+            output = so_far.output;
+            read = (
+              split_from left_old left_now now.inbox so_far.requests ends.ended (has_read_end left_old left_mid left_now [] mid.inbox now.inbox so_far.requests room so_far.read some arrives),
+              drained_from left_old left_mid left_now mid.inbox now.inbox so_far.requests room so_far.read arrives,
+            );
+            run = run_so_far;
+            written = silent s;
+          },
+          s.count ∙ same_count,
+        )
+
+        how_ends : (e : EndKind) → NoRequest mid now e → Finish e
+        how_ends e (inl (is, arrives, s)) = subst Finish (sym is) (ended arrives s)
+        how_ends e (inr (f, arrives, given, ends)) = refused_ends f e arrives given ends
+
+      unturned_ends : (e : EndKind) → Unturned write_gives read_gives stand_gives mid now (Some e) → Finish e
+      unturned_ends e u = let same : u.kind ≡ e = cc in subst Finish same (how_ends (Some e) u u.kind u.how)
+
+      pub turn_ends : (last : Bool) (e : EndKind) → last ≡ (room == 1) → Turns write_gives read_gives stand_gives mid now last (Some e) → Finish e
+      turn_ends last e is turns = by (subst (λ (b : Bool). Turns write_gives read_gives stand_gives mid now b (Some e)) is turns)
+        where
+          by : Turns write_gives read_gives stand_gives mid now (room == 1) (Some e) → Finish e
+          by (inl t) = turned_ends e t
+          by (inr u) = unturned_ends e u
+
+      pub turn_goes_on : (last : Bool) → last ≡ (room == 1) → Turns write_gives read_gives stand_gives mid now last None → SoFar old first now (room - 1) × (now_count ≡ before)
+      turn_goes_on last is turns = by (subst (λ (b : Bool). Turns write_gives read_gives stand_gives mid now b None) is turns)
+        where
+          by : Turns write_gives read_gives stand_gives mid now (room == 1) None → SoFar old first now (room - 1) × (now_count ≡ before)
+          by (inl t) = let on = goes_on t in (on.0, on.1 ∙ same_count)
+          by (inr u) = let never = u.ends in cc
 
   -- the last of so many requests was replied to
-  pub limit_ends : (left_old left_now : Option (List ℕ)) (inbox : List ℕ) (taken_old taken_now : Option (List ℕ)) (before now_count : ℕ) (old now : S) (notes : List Note)
-      → SoFar left_old left_now inbox taken_old taken_now old now notes 0
-      → Ends write_gives read_gives stand_gives left_old left_now taken_old taken_now before now_count old notes now kind.Limit
-  limit_ends left_old left_now inbox taken_old taken_now before now_count old now notes so_far = record {
+  pub limit_ends : (old : Streams) (first : S) (now : TurnState S) → SoFar old first now 0 → Ends write_gives read_gives stand_gives old now.streams first now.notes now.store kind.Limit
+  limit_ends old first now so_far = record {
     requests = so_far.requests;
     output = so_far.output;
-    read = split_from left_old left_now inbox so_far.requests limit (has_read_limit left_old left_now [] inbox so_far.requests 0 so_far.read refl);
+    read = split_from old.input.told now.streams.input.told now.inbox so_far.requests limit (has_read_limit old.input.told now.streams.input.told [] now.inbox so_far.requests 0 so_far.read refl);
     run = so_far.run;
     written = so_far.written;
   }

@@ -17,7 +17,7 @@ use Rattle.fd_api.specs.declared.note.Note.{Note}
 use Rattle.fd_api.specs.declared.note.Note.TheVariants.{Read, Wrote, Stood, NotDrawn, Spent, Refused, Faulted, Short}
 use Rattle.fd_api.specs.Demands.{Asks}
 use Rattle.fd_api.specs.Replies.{IsReply, IsSent, refusal, not_allowed, number_reply, answer_reply, stand_reply, short}
-use Rattle.std.specs.declared.option.Option.{Option}
+use Rattle.fd_api.specs.Streams.{Streams}
 use Rattle.fd_api.specs.declared.sessions.EndKind.{EndKind}
 use Rattle.fd_api.specs.Sessions.{is_last, MOST_REQUESTS, ReadBy, SentBy}
 
@@ -83,9 +83,9 @@ pub record Ran (old : StoreView) (room : ℕ) (requests : List Request) (notes :
   pub accounts : Accounts new.history room requests notes written output
 
 -- A session over a store: the requests that it read, what became of the store by them, and what was sent.
-pub record SessionRan (left_old left_new taken_old taken_new : Option (List ℕ)) (before now : ℕ) (old : StoreView) (notes : List Note) (new : StoreView) (end : EndKind) : Type 0 where
+pub record SessionRan (old new : Streams) (first : StoreView) (notes : List Note) (last : StoreView) (end : EndKind) : Type 0 where
   pub requests : List Request
   pub output : List ℕ
-  pub read : ReadBy left_old left_new end requests
-  pub ran : Ran old MOST_REQUESTS requests notes new output
-  pub written : SentBy taken_old taken_new before now end output
+  pub read : ReadBy old.input new.input end requests
+  pub ran : Ran first MOST_REQUESTS requests notes last output
+  pub written : SentBy old new end requests output

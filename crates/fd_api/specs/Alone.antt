@@ -8,7 +8,7 @@ use Rattle.fd_api.specs.declared.note.Note.TheVariants.{Read, Wrote, Stood, NotD
 use Rattle.fd_api.specs.declared.sessions.EndKind.{EndKind}
 use Rattle.fd_api.specs.Accounts.{Accounts}
 use Rattle.fd_api.specs.Sessions.{MOST_REQUESTS, ReadBy, SentBy}
-use Rattle.std.specs.declared.option.Option.{Option}
+use Rattle.fd_api.specs.Streams.{Streams}
 
 -- After so many batches: an accepted write has the next number, and each other number is that of the batches so far.
 abbrev pub Exact : ℕ → List Note → Type 0
@@ -32,9 +32,9 @@ pub record AloneRan (old : LocalView) (room : ℕ) (requests : List Request) (no
   pub accounts : Accounts (history_of new) room requests notes (numbered_from (1 + count_of old) more) output
 
 -- A session over such a store: the requests that it read, what became of the store by them, and what was sent.
-pub record AloneSessionRan (left_old left_new taken_old taken_new : Option (List ℕ)) (before now : ℕ) (old : LocalView) (notes : List Note) (new : LocalView) (end : EndKind) : Type 0 where
+pub record AloneSessionRan (old new : Streams) (first : LocalView) (notes : List Note) (last : LocalView) (end : EndKind) : Type 0 where
   pub requests : List Request
   pub output : List ℕ
-  pub read : ReadBy left_old left_new end requests
-  pub ran : AloneRan old MOST_REQUESTS requests notes new output
-  pub written : SentBy taken_old taken_new before now end output
+  pub read : ReadBy old.input new.input end requests
+  pub ran : AloneRan first MOST_REQUESTS requests notes last output
+  pub written : SentBy old new end requests output

@@ -9,6 +9,7 @@ use Rattle.fd_kinds.specs.declared.stand.Stand.{Stand}
 use Rattle.fd_kinds.specs.declared.store.WriteRefusal.{WriteRefusal}
 use Rattle.fd_kinds.specs.declared.store.ReadRefusal.{ReadRefusal}
 use Rattle.fd_http.specs.declared.request.Request.{Request}
+use Rattle.fd_http.specs.declared.request.RequestFault.{RequestFault}
 use Rattle.fd_http.specs.declared.request.RequestFault.TheVariants as head
 use Rattle.fd_http.specs.declared.replies.Response.{Response}
 use Rattle.fd_http.specs.declared.replies.Response.TheVariants as response
@@ -16,7 +17,6 @@ use Rattle.fd_http.specs.Inputs.{End, ended, closed, limit, refused_as, Splits}
 use Rattle.fd_http.specs.Prefixes.{Leads}
 use Rattle.fd_http.specs.Remainders.{IfTold, Given}
 use Rattle.fd_http.specs.Replies.{AppendsFront, reply_bytes}
-use Rattle.fd_json.specs.declared.refusal.Fault.{Fault}
 use Rattle.fd_json.specs.declared.refusal.Fault.TheVariants as fault
 use Rattle.fd_api.specs.declared.note.Note.{Note}
 use Rattle.fd_api.specs.declared.note.Note.TheVariants.{Read, Wrote, Stood, NotDrawn, Spent, Refused, Faulted, Short}
@@ -24,6 +24,7 @@ use Rattle.fd_api.specs.declared.sessions.EndKind.{EndKind}
 use Rattle.fd_api.specs.declared.sessions.EndKind.TheVariants as kind
 use Rattle.fd_api.specs.Effects.{Handles}
 use Rattle.fd_api.specs.Replies.{IsSent, refusal}
+use Rattle.fd_api.specs.Streams.{Stream, Streams}
 
 -- how many requests a session takes
 abbrev pub MOST_REQUESTS : ℕ
@@ -64,51 +65,69 @@ IsBegun told requests = Begins told requests ⊎ IsSplit told requests closed
 abbrev pub AreAllGiven : Option (List ℕ) → Option (List ℕ) → List Request → Type 0
 AreAllGiven old new requests = Given old new [] (λ given. Splits given requests ended ⊎ Splits given requests (refused_as head.Cut))
 
--- the output, and the one reply to a head that is refused
-abbrev pub AppendsThen : Option (List ℕ) → Option (List ℕ) → Fault → List ℕ → Type 0
-AppendsThen old new f output = (last : List ℕ) × IsSent true (refusal f) last × Appends old new (output ++ last)
+-- the one reply to a head that is refused
+abbrev pub IsDismissal : RequestFault → List ℕ → Type 0
+IsDismissal head.BadHead bytes = IsSent true (refusal fault.BadHead) bytes
+IsDismissal head.NoLength bytes = IsSent true (refusal fault.NoLength) bytes
+IsDismissal head.TooLarge bytes = IsSent true (refusal fault.TooLarge) bytes
+IsDismissal head.Cut bytes = ⊥
+IsDismissal head.ReadFault bytes = ⊥
+IsDismissal head.NoMemory bytes = ⊥
 
--- a front of the output, and of the reply to a head that is refused, if there is one
-abbrev pub AppendsPart : Option (List ℕ) → Option (List ℕ) → List ℕ → Type 0
-AppendsPart old new output = AppendsFront old new output ⊎ (f : Fault) × (last : List ℕ) × IsSent true (refusal f) last × AppendsFront old new (output ++ last)
+-- the sink took these bytes
+abbrev pub Takes : Stream → Stream → List ℕ → Type 0
+Takes old new bytes = Appends old.told new.told bytes
+
+-- the output, and the reply to a head that is refused
+abbrev pub TakesThen : Stream → Stream → RequestFault → List ℕ → Type 0
+TakesThen old new refused output = (last : List ℕ) × IsDismissal refused last × Takes old new (output ++ last)
+
+-- A front of the output; or of the output and the reply to a head that is refused, which is the one at which the split of
+-- the input ends.
+abbrev pub TakesPart : Streams → Streams → List Request → List ℕ → Type 0
+TakesPart old new requests output =
+    AppendsFront old.output.told new.output.told output
+    ⊎ ((refused : RequestFault) × IsSplit old.input.told requests (refused_as refused)
+    × (last : List ℕ) × IsDismissal refused last × AppendsFront old.output.told new.output.told (output ++ last))
 
 -- the output, or a front of it where the sink's count rose
-abbrev pub AppendsUnlessFault : Option (List ℕ) → Option (List ℕ) → ℕ → ℕ → List ℕ → Type 0
-AppendsUnlessFault old new before now output = (Appends old new output × (now ≡ before)) ⊎ (AppendsFront old new output × Rose before now)
+abbrev pub TakesUnlessFault : Stream → Stream → List ℕ → Type 0
+TakesUnlessFault old new output =
+    (Takes old new output × (new.faults ≡ old.faults)) ⊎ (AppendsFront old.told new.told output × Rose old.faults new.faults)
 
 -- the output and the reply to want of memory, or a front of that where the sink's count rose
-abbrev pub AppendsThenShort : Option (List ℕ) → Option (List ℕ) → ℕ → ℕ → List ℕ → Type 0
-AppendsThenShort old new before now output =
-    (Appends old new (output ++ reply_bytes (response.Short true)) × (now ≡ before))
-    ⊎ ((k : ℕ) × (k ≤ length (reply_bytes (response.Short true))) × Appends old new (output ++ take k (reply_bytes (response.Short true))) × Rose before now)
+abbrev pub TakesThenShort : Stream → Stream → List ℕ → Type 0
+TakesThenShort old new output =
+    (Takes old new (output ++ reply_bytes (response.Short true)) × (new.faults ≡ old.faults))
+    ⊎ ((k : ℕ) × (k ≤ length (reply_bytes (response.Short true))) × Takes old new (output ++ take k (reply_bytes (response.Short true))) × Rose old.faults new.faults)
 
 -- the requests that a session read, by its end
-abbrev pub ReadBy : Option (List ℕ) → Option (List ℕ) → EndKind → List Request → Type 0
-ReadBy left_old left_new kind.Ended requests = IsSplit left_old requests ended × IsDrained left_old left_new
-ReadBy left_old left_new kind.Closed requests = IsSplit left_old requests closed
-ReadBy left_old left_new kind.Limit requests = IsSplit left_old requests limit
-ReadBy left_old left_new kind.Cut requests = IsSplit left_old requests (refused_as head.Cut)
-ReadBy left_old left_new kind.BadHead requests = IsSplit left_old requests (refused_as head.BadHead)
-ReadBy left_old left_new kind.NoLength requests = IsSplit left_old requests (refused_as head.NoLength)
-ReadBy left_old left_new kind.TooLarge requests = IsSplit left_old requests (refused_as head.TooLarge)
-ReadBy left_old left_new kind.ReadFault requests = Begins left_old requests × AreAllGiven left_old left_new requests
-ReadBy left_old left_new kind.WriteFault requests = IsBegun left_old requests
-ReadBy left_old left_new kind.DiskFault requests = IsBegun left_old requests
-ReadBy left_old left_new kind.NoMemory requests = Begins left_old requests
+abbrev pub ReadBy : Stream → Stream → EndKind → List Request → Type 0
+ReadBy old new kind.Ended requests = IsSplit old.told requests ended × IsDrained old.told new.told
+ReadBy old new kind.Closed requests = IsSplit old.told requests closed
+ReadBy old new kind.Limit requests = IsSplit old.told requests limit
+ReadBy old new kind.Cut requests = IsSplit old.told requests (refused_as head.Cut)
+ReadBy old new kind.BadHead requests = IsSplit old.told requests (refused_as head.BadHead)
+ReadBy old new kind.NoLength requests = IsSplit old.told requests (refused_as head.NoLength)
+ReadBy old new kind.TooLarge requests = IsSplit old.told requests (refused_as head.TooLarge)
+ReadBy old new kind.ReadFault requests = Begins old.told requests × AreAllGiven old.told new.told requests
+ReadBy old new kind.WriteFault requests = IsBegun old.told requests
+ReadBy old new kind.DiskFault requests = IsBegun old.told requests
+ReadBy old new kind.NoMemory requests = Begins old.told requests
 
--- what the sink took of the output, by the end
-abbrev pub SentBy : Option (List ℕ) → Option (List ℕ) → ℕ → ℕ → EndKind → List ℕ → Type 0
-SentBy old new before now kind.Ended output = Appends old new output
-SentBy old new before now kind.Closed output = Appends old new output
-SentBy old new before now kind.Limit output = Appends old new output
-SentBy old new before now kind.Cut output = Appends old new output
-SentBy old new before now kind.BadHead output = AppendsThen old new fault.BadHead output
-SentBy old new before now kind.NoLength output = AppendsThen old new fault.NoLength output
-SentBy old new before now kind.TooLarge output = AppendsThen old new fault.TooLarge output
-SentBy old new before now kind.ReadFault output = Appends old new output
-SentBy old new before now kind.WriteFault output = AppendsPart old new output
-SentBy old new before now kind.DiskFault output = AppendsUnlessFault old new before now output
-SentBy old new before now kind.NoMemory output = AppendsThenShort old new before now output
+-- what the sink took of the output of these requests, by the end
+abbrev pub SentBy : Streams → Streams → EndKind → List Request → List ℕ → Type 0
+SentBy old new kind.Ended requests output = Takes old.output new.output output
+SentBy old new kind.Closed requests output = Takes old.output new.output output
+SentBy old new kind.Limit requests output = Takes old.output new.output output
+SentBy old new kind.Cut requests output = Takes old.output new.output output
+SentBy old new kind.BadHead requests output = TakesThen old.output new.output head.BadHead output
+SentBy old new kind.NoLength requests output = TakesThen old.output new.output head.NoLength output
+SentBy old new kind.TooLarge requests output = TakesThen old.output new.output head.TooLarge output
+SentBy old new kind.ReadFault requests output = Takes old.output new.output output
+SentBy old new kind.WriteFault requests output = TakesPart old new requests output
+SentBy old new kind.DiskFault requests output = TakesUnlessFault old.output new.output output
+SentBy old new kind.NoMemory requests output = TakesThenShort old.output new.output output
 
 module _ {S : Type 0} (write_gives : S → List Row → Result ℕ WriteRefusal → S → Type 0) (read_gives : S → ℕ → Query → Result Seen ReadRefusal → S → Type 0) (stand_gives : S → Stand → S → Type 0) where
   -- one request: what handling it did, and the bytes sent for it
@@ -128,18 +147,13 @@ module _ {S : Type 0} (write_gives : S → List Row → Result ℕ WriteRefusal 
   Runs old room [] (note ∷ notes) new output = ⊥
   Runs old room (request ∷ requests) [] new output = ⊥
 
-  -- requests that were read so, the run over them, and what became of the output
-  pub record Served (is_read : List Request → Type 0) (old : S) (notes : List Note) (new : S) (sent : List ℕ → Type 0) : Type 0 where
+  -- What a session leaves, by its end: its streams before and after, the store before, the notes, and the store after.
+  pub record Ends (old new : Streams) (first : S) (notes : List Note) (last : S) (end : EndKind) : Type 0 where
     pub requests : List Request
     pub output : List ℕ
-    pub read : is_read requests
-    pub run : Runs old MOST_REQUESTS requests notes new output
-    pub written : sent output
-
-  -- What a session leaves, by its end: what the source told before, and tells now; what the sink had taken and has, and
-  -- its counts of faults; the store before, the notes, and the store now.
-  abbrev pub Ends : Option (List ℕ) → Option (List ℕ) → Option (List ℕ) → Option (List ℕ) → ℕ → ℕ → S → List Note → S → EndKind → Type 0
-  Ends left_old left_new taken_old taken_new before now old notes new end = Served (ReadBy left_old left_new end) old notes new (SentBy taken_old taken_new before now end)
+    pub read : ReadBy old.input new.input end requests
+    pub run : Runs first MOST_REQUESTS requests notes last output
+    pub written : SentBy old new end requests output
 
 -- a read fault raised the source's count, and nothing else did
 abbrev pub SourceCause : ℕ → ℕ → EndKind → Type 0

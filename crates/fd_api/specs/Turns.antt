@@ -9,6 +9,7 @@ use Rattle.fd_kinds.specs.declared.stand.Stand.{Stand}
 use Rattle.fd_kinds.specs.declared.store.WriteRefusal.{WriteRefusal}
 use Rattle.fd_kinds.specs.declared.store.ReadRefusal.{ReadRefusal}
 use Rattle.fd_http.specs.declared.request.Request.{Request}
+use Rattle.fd_http.specs.declared.request.Arrived.{Arrived}
 use Rattle.fd_http.specs.declared.request.Arrived.TheVariants as arrived
 use Rattle.fd_http.specs.declared.request.RequestFault.{RequestFault}
 use Rattle.fd_http.specs.declared.request.RequestFault.TheVariants as head
@@ -27,6 +28,7 @@ use Rattle.fd_api.specs.declared.sessions.EndKind.{EndKind}
 use Rattle.fd_api.specs.declared.sessions.EndKind.TheVariants as kind
 use Rattle.fd_api.specs.Replies.{IsSent, refusal}
 use Rattle.fd_api.specs.Sessions.{Serves, is_faulted}
+use Rattle.fd_api.specs.Streams.{Stream, Streams}
 
 -- the bytes of a reply were taken, or a front of them
 abbrev pub PutsReply : Option (List ℕ) → Option (List ℕ) → List ℕ → Put → Type 0
@@ -34,28 +36,28 @@ PutsReply old new bytes Done = Appends old new bytes
 PutsReply old new bytes Failed = AppendsFront old new bytes
 
 -- The one reply to a head that is refused, and the end that stands for it, unless that could not be written.
-abbrev pub Dismisses : Option (List ℕ) → Option (List ℕ) → ℕ → ℕ → Fault → EndKind → EndKind → Type 0
-Dismisses old new before now f wanted end =
-    ((end ≡ wanted) × (now ≡ before) × (last : List ℕ) × IsSent true (refusal f) last × Appends old new last)
-    ⊎ ((end ≡ kind.WriteFault) × Rose before now × (last : List ℕ) × IsSent true (refusal f) last × AppendsFront old new last)
+abbrev pub Dismisses : Stream → Stream → Fault → EndKind → EndKind → Type 0
+Dismisses old new f wanted end =
+    ((end ≡ wanted) × (new.faults ≡ old.faults) × (last : List ℕ) × IsSent true (refusal f) last × Appends old.told new.told last)
+    ⊎ ((end ≡ kind.WriteFault) × Rose old.faults new.faults × (last : List ℕ) × IsSent true (refusal f) last × AppendsFront old.told new.told last)
 
 -- nothing was sent
-pub record Silent (old new : Option (List ℕ)) (before now : ℕ) : Type 0 where
-  pub taken : Keeps old new
-  pub count : now ≡ before
+pub record Silent (old new : Stream) : Type 0 where
+  pub taken : Keeps old.told new.told
+  pub count : new.faults ≡ old.faults
 
 -- the reply to want of memory was sent, or a front of it
-abbrev pub Short : Option (List ℕ) → Option (List ℕ) → ℕ → ℕ → Type 0
-Short old new before now = (put : Put) × PutsReply old new (reply_bytes (response.Short true)) put × PutCause before now put
+abbrev pub Short : Stream → Stream → Type 0
+Short old new = (put : Put) × PutsReply old.told new.told (reply_bytes (response.Short true)) put × PutCause old.faults new.faults put
 
 -- what is done where no request arrives
-abbrev pub EndsAt : Option (List ℕ) → Option (List ℕ) → ℕ → ℕ → RequestFault → EndKind → Type 0
-EndsAt old new before now head.BadHead end = Dismisses old new before now fault.BadHead kind.BadHead end
-EndsAt old new before now head.NoLength end = Dismisses old new before now fault.NoLength kind.NoLength end
-EndsAt old new before now head.TooLarge end = Dismisses old new before now fault.TooLarge kind.TooLarge end
-EndsAt old new before now head.Cut end = (end ≡ kind.Cut) × Silent old new before now
-EndsAt old new before now head.ReadFault end = (end ≡ kind.ReadFault) × Silent old new before now
-EndsAt old new before now head.NoMemory end = (end ≡ kind.NoMemory) × Short old new before now
+abbrev pub EndsAt : Stream → Stream → RequestFault → EndKind → Type 0
+EndsAt old new head.BadHead end = Dismisses old new fault.BadHead kind.BadHead end
+EndsAt old new head.NoLength end = Dismisses old new fault.NoLength kind.NoLength end
+EndsAt old new head.TooLarge end = Dismisses old new fault.TooLarge kind.TooLarge end
+EndsAt old new head.Cut end = (end ≡ kind.Cut) × Silent old new
+EndsAt old new head.ReadFault end = (end ≡ kind.ReadFault) × Silent old new
+EndsAt old new head.NoMemory end = (end ≡ kind.NoMemory) × Short old new
 
 -- how a session goes on after a reply that was written, and after one that was not
 abbrev pub after_put : Bool → Put → Option EndKind
@@ -66,37 +68,54 @@ after_put close Done = if close then Some kind.Closed else None
 abbrev pub after_reply : Bool → Note → Put → Option EndKind
 after_reply closes note put = if is_faulted note then Some kind.DiskFault else after_put closes put
 
+-- A session between two turns: its streams, the bytes that were read and belong to no request yet, the notes so far, and
+-- its store.
+pub record TurnState (S : Type 0) : Type 0 where
+  pub streams : Streams
+  pub inbox : List ℕ
+  pub notes : List Note
+  pub store : S
+
+abbrev pub between : {S : Type 0} → Streams → List ℕ → List Note → S → TurnState S
+between streams inbox notes store = record { streams = streams; inbox = inbox; notes = notes; store = store }
+
+-- what reading the next request answered
+abbrev pub ReadsNext : {S : Type 0} → TurnState S → TurnState S → Result Arrived RequestFault → Type 0
+ReadsNext old new answer = Arrives old.streams.input.told new.streams.input.told old.inbox new.inbox answer
+
+-- the bytes of the inbox, and those that the source gave since
+abbrev pub HasGiven : {S : Type 0} → TurnState S → TurnState S → (List ℕ → Type 0) → Type 0
+HasGiven old new Is = Given old.streams.input.told new.streams.input.told old.inbox Is
+
 -- no request arrived: the input ended, or something spoke against the next request
-abbrev pub NoRequest : Option (List ℕ) → Option (List ℕ) → List ℕ → List ℕ → Option (List ℕ) → Option (List ℕ) → ℕ → ℕ → EndKind → Type 0
-NoRequest left_old left_new inbox_old inbox_new taken_old taken_new before now end =
-    ((end ≡ kind.Ended) × Arrives left_old left_new inbox_old inbox_new (Ok arrived.End) × Silent taken_old taken_new before now)
-    ⊎ ((f : RequestFault) × Arrives left_old left_new inbox_old inbox_new (Err f)
-    × AtReadFault f (Given left_old left_new inbox_old IsUnfinished) × EndsAt taken_old taken_new before now f end)
+abbrev pub NoRequest : {S : Type 0} → TurnState S → TurnState S → EndKind → Type 0
+NoRequest old new end =
+    ((end ≡ kind.Ended) × ReadsNext old new (Ok arrived.End) × Silent old.streams.output new.streams.output)
+    ⊎ ((f : RequestFault) × ReadsNext old new (Err f)
+    × AtReadFault f (HasGiven old new IsUnfinished) × EndsAt old.streams.output new.streams.output f end)
 
 module _ {S : Type 0} (write_gives : S → List Row → Result ℕ WriteRefusal → S → Type 0) (read_gives : S → ℕ → Query → Result Seen ReadRefusal → S → Type 0) (stand_gives : S → Stand → S → Type 0) where
   -- A request arrived, was handled and replied to, and its note was kept.
-  pub record Turned (left_old left_new : Option (List ℕ)) (inbox_old inbox_new : List ℕ) (taken_old taken_new : Option (List ℕ)) (before now : ℕ) (old new : S) (notes_old notes_new : List Note) (last : Bool) (end : Option EndKind) : Type 0 where
+  pub record Turned (old new : TurnState S) (last : Bool) (end : Option EndKind) : Type 0 where
     pub request : Request
     pub note : Note
     pub bytes : List ℕ
     pub put : Put
-    pub arrives : Arrives left_old left_new inbox_old inbox_new (Ok (arrived.One request))
-    pub given : Given left_old left_new inbox_old (λ given. Begins given request inbox_new)
-    pub serves : Serves write_gives read_gives stand_gives request old note new (request.close || last || is_faulted note) bytes
-    pub noted : notes_new ≡ notes_old ++ note ∷ []
-    pub sent : PutsReply taken_old taken_new bytes put
-    pub count : PutCause before now put
+    pub arrives : ReadsNext old new (Ok (arrived.One request))
+    pub given : HasGiven old new (λ given. Begins given request new.inbox)
+    pub serves : Serves write_gives read_gives stand_gives request old.store note new.store (request.close || last || is_faulted note) bytes
+    pub noted : new.notes ≡ old.notes ++ note ∷ []
+    pub sent : PutsReply old.streams.output.told new.streams.output.told bytes put
+    pub count : PutCause old.streams.output.faults new.streams.output.faults put
     pub goes : end ≡ after_reply request.close note put
 
   -- No request arrived, and the session ends.
-  pub record Unturned (left_old left_new : Option (List ℕ)) (inbox_old inbox_new : List ℕ) (taken_old taken_new : Option (List ℕ)) (before now : ℕ) (old new : S) (notes_old notes_new : List Note) (end : Option EndKind) : Type 0 where
-    pub store : new ≡ old
-    pub noted : notes_new ≡ notes_old
+  pub record Unturned (old new : TurnState S) (end : Option EndKind) : Type 0 where
+    pub store : new.store ≡ old.store
+    pub noted : new.notes ≡ old.notes
     pub kind : EndKind
     pub ends : end ≡ Some kind
-    pub how : NoRequest left_old left_new inbox_old inbox_new taken_old taken_new before now kind
+    pub how : NoRequest old new kind
 
-  abbrev pub Turns : Option (List ℕ) → Option (List ℕ) → List ℕ → List ℕ → Option (List ℕ) → Option (List ℕ) → ℕ → ℕ → S → S → List Note → List Note → Bool → Option EndKind → Type 0
-  Turns left_old left_new inbox_old inbox_new taken_old taken_new before now old new notes_old notes_new last end =
-      Turned left_old left_new inbox_old inbox_new taken_old taken_new before now old new notes_old notes_new last end
-      ⊎ Unturned left_old left_new inbox_old inbox_new taken_old taken_new before now old new notes_old notes_new end
+  abbrev pub Turns : TurnState S → TurnState S → Bool → Option EndKind → Type 0
+  Turns old new last end = Turned old new last end ⊎ Unturned old new end

@@ -5,7 +5,9 @@ ghost use Rattle.fd_http.specs.Replies.{CanBeSent, reply_bytes};
 ghost use Rattle.fd_api.specs.Replies.{IsSent, closing};
 ghost use Rattle.fd_api.specs.Sessions.{Serves, Ends, SourceCause, SinkCause, StoreCause, is_faulted};
 ghost use Rattle.fd_api.specs.Accounts.{SessionRan};
+ghost use Rattle.fd_api.specs.Streams.{stream, streams};
 ghost use Rattle.fd_api.specs.Turns.{PutsReply, Dismisses, Short, EndsAt, Turns, after_reply};
+ghost use Rattle.fd_api.specs.Turns.{between};
 
 use crate::handler::{handle, refuse};
 use crate::{Handled, Note, Notes};
@@ -94,8 +96,8 @@ fn send<K: Sink>(alloc: Global, out: &mut K, response: Response, close: bool) ->
 
 /// Replies to a head that is refused.
 fn dismiss<K: Sink>(alloc: Global, out: &mut K, fault: Fault, end: EndKind) -> EndKind
-    ensures { Dismisses (K.taken out.old) (K.taken out.new)
-        (K.faults out.old) (K.faults out.new) fault end result }
+    ensures { Dismisses (stream K.taken K.faults out.old) (stream K.taken K.faults out.new)
+        fault end result }
 {
     match send(alloc, out, refuse(alloc, fault), true) {
         Put::Done => end,
@@ -106,7 +108,7 @@ fn dismiss<K: Sink>(alloc: Global, out: &mut K, fault: Fault, end: EndKind) -> E
 /// Tries the reply to want of memory.
 fn give_up<K: Sink>(alloc: Global, out: &mut K) -> EndKind
     ensures end { result ≡ EndKind.NoMemory }
-    ensures sent { Short (K.taken out.old) (K.taken out.new) (K.faults out.old) (K.faults out.new) }
+    ensures sent { Short (stream K.taken K.faults out.old) (stream K.taken K.faults out.new) }
 {
     let _ = send_short(alloc, out, true);
     EndKind::NoMemory
@@ -114,8 +116,8 @@ fn give_up<K: Sink>(alloc: Global, out: &mut K) -> EndKind
 
 /// Ends where no request arrives.
 fn end_at<K: Sink>(alloc: Global, out: &mut K, fault: RequestFault) -> EndKind
-    ensures { EndsAt (K.taken out.old) (K.taken out.new)
-        (K.faults out.old) (K.faults out.new) fault result }
+    ensures { EndsAt (stream K.taken K.faults out.old) (stream K.taken K.faults out.new)
+        fault result }
 {
     match fault {
         RequestFault::BadHead => dismiss(alloc, out, Fault::BadHead, EndKind::BadHead),
@@ -192,9 +194,11 @@ fn turn<T: Store, S: Source, K: Sink>(
 ) -> Option<EndKind>
     requires { T.has_failed store.old ≡ false }
     ensures turned { Turns T.write_gives T.read_gives T.stand_gives
-        (S.left input.old) (S.left input.new) inbox.old inbox.new
-        (K.taken out.old) (K.taken out.new) (K.faults out.old) (K.faults out.new)
-        store.old store.new notes.old.items notes.new.items last result }
+        (between (streams (stream S.left S.faults input.old) (stream K.taken K.faults out.old))
+        inbox.old notes.old.items store.old)
+        (between (streams (stream S.left S.faults input.new) (stream K.taken K.faults out.new))
+        inbox.new notes.new.items store.new)
+        last result }
     ensures source { SourceCause (S.faults input.old) (S.faults input.new)
         (unwrap_or result EndKind.Limit) }
     ensures disk { StoreCause (T.faults store.old) (T.faults store.new)
@@ -226,8 +230,9 @@ fn serve<T: Store, S: Source, K: Sink>(
 ) -> SessionEnd
     requires { T.has_failed store.old ≡ false }
     ensures ends { Ends T.write_gives T.read_gives T.stand_gives
-        (S.left input.old) (S.left input.new) (K.taken out.old) (K.taken out.new)
-        (K.faults out.old) (K.faults out.new) store.old result.notes store.new result.end }
+        (streams (stream S.left S.faults input.old) (stream K.taken K.faults out.old))
+        (streams (stream S.left S.faults input.new) (stream K.taken K.faults out.new))
+        store.old result.notes store.new result.end }
     ensures source { SourceCause (S.faults input.old) (S.faults input.new) result.end }
     ensures sink { SinkCause (K.faults out.old) (K.faults out.new) result.end }
     ensures disk { StoreCause (T.faults store.old) (T.faults store.new) result.end }
@@ -239,7 +244,7 @@ fn serve<T: Store, S: Source, K: Sink>(
         Err(_) => {
             return SessionEnd {
                 end: give_up(alloc, out),
-                notes: notes.into_items(),
+                notes: Notes::of(notes),
             };
         }
     };
@@ -248,13 +253,13 @@ fn serve<T: Store, S: Source, K: Sink>(
         if let Some(end) = turn(alloc, store, input, out, &mut inbox, &mut notes, last) {
             return SessionEnd {
                 end,
-                notes: notes.into_items(),
+                notes: Notes::of(notes),
             };
         }
     }
     SessionEnd {
         end: EndKind::Limit,
-        notes: notes.into_items(),
+        notes: Notes::of(notes),
     }
 }
 
@@ -271,15 +276,16 @@ pub fn session<T: Store, S: Source, K: Sink>(
 ) -> SessionEnd
     requires { T.has_failed store.old ≡ false }
     ensures ends { Ends T.write_gives T.read_gives T.stand_gives
-        (S.left input.old) (S.left input.new) (K.taken out.old) (K.taken out.new)
-        (K.faults out.old) (K.faults out.new) store.old result.notes store.new result.end }
+        (streams (stream S.left S.faults input.old) (stream K.taken K.faults out.old))
+        (streams (stream S.left S.faults input.new) (stream K.taken K.faults out.new))
+        store.old result.notes store.new result.end }
     ensures source { SourceCause (S.faults input.old) (S.faults input.new) result.end }
     ensures sink { SinkCause (K.faults out.old) (K.faults out.new) result.end }
     ensures disk { StoreCause (T.faults store.old) (T.faults store.new) result.end }
     ensures healthy { result.end ≢ EndKind.DiskFault → T.has_failed store.new ≡ false }
     ensures law { SessionRan
-        (S.left input.old) (S.left input.new) (K.taken out.old) (K.taken out.new)
-        (K.faults out.old) (K.faults out.new)
+        (streams (stream S.left S.faults input.old) (stream K.taken K.faults out.old))
+        (streams (stream S.left S.faults input.new) (stream K.taken K.faults out.new))
         (T.sees store.old) result.notes (T.sees store.new) result.end }
 {
     serve(alloc, store, input, out)

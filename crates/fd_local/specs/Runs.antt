@@ -1,5 +1,5 @@
 -- A run of the program: its words, its session, its status and the line on the error sink.
-use Rattle.std.specs.Prelude.{◌≡◌, ℕ, ◌++◌, ◌∷◌, [], ◌⊎◌, List, Option, codes}
+use Rattle.std.specs.Prelude.{◌≡◌, ℕ, ◌++◌, ◌∷◌, [], ◌⊎◌, List, codes}
 use Rattle.std.specs.Io.KnownBytes.{Appends}
 use Rattle.fd_lists.specs.Counts.{Rose}
 use Rattle.fd_kinds.specs.History.{LocalView, IsOpened, Writes, Reads, Stands}
@@ -8,6 +8,7 @@ use Rattle.fd_api.specs.declared.note.Note.{Note}
 use Rattle.fd_api.specs.declared.sessions.EndKind.{EndKind}
 use Rattle.fd_api.specs.declared.sessions.EndKind.TheVariants.{Ended, Closed, Limit, Cut, BadHead, NoLength, TooLarge, ReadFault, WriteFault, DiskFault, NoMemory}
 use Rattle.fd_api.specs.Alone.{AloneSessionRan}
+use Rattle.fd_api.specs.Streams.{Stream, Streams}
 use Rattle.fd_api.specs.Sessions.{Ends, SourceCause, SinkCause}
 
 -- the words of a session
@@ -48,18 +49,26 @@ abbrev pub bad_words : List ℕ
 bad_words = line (codes "frostd: bad words")
 
 -- the error sink took the line, or a front of it where its count rose
-abbrev pub Tells : Option (List ℕ) → Option (List ℕ) → ℕ → ℕ → List ℕ → Type 0
-Tells old new before now text = (Appends old new text × (now ≡ before)) ⊎ (AppendsFront old new text × Rose before now)
+abbrev pub Tells : Stream → Stream → List ℕ → Type 0
+Tells old new text =
+    (Appends old.told new.told text × (new.faults ≡ old.faults)) ⊎ (AppendsFront old.told new.told text × Rose old.faults new.faults)
 
 -- The run of a session over a store that was opened without batches: there are notes, and that store before and after,
 -- with which the end meets what a session leaves over a store that nobody else writes. The store then has exactly the
 -- batches of the notes, numbered from 1, and each note's numbers are exact.
-pub record RunsSession (left_old left_new taken_old taken_new : Option (List ℕ)) (reads_before reads_now writes_before writes_now : ℕ) (end : EndKind) : Type 0 where
+pub record RunsSession (old new : Streams) (end : EndKind) : Type 0 where
   pub notes : List Note
   pub first : LocalView
   pub last : LocalView
   pub opened : IsOpened [] first
-  pub ends : Ends Writes Reads Stands left_old left_new taken_old taken_new writes_before writes_now first notes last end
-  pub ran : AloneSessionRan left_old left_new taken_old taken_new writes_before writes_now first notes last end
-  pub source : SourceCause reads_before reads_now end
-  pub sink : SinkCause writes_before writes_now end
+  pub ends : Ends Writes Reads Stands old new first notes last end
+  pub ran : AloneSessionRan old new first notes last end
+  pub source : SourceCause old.input.faults new.input.faults end
+  pub sink : SinkCause old.output.faults new.output.faults end
+
+-- what a session's end tells: the status, and the line on the error sink
+pub record TellsSession (old new : Streams) (err_old err_new : Stream) (status : ℕ) : Type 0 where
+  pub end : EndKind
+  pub runs : RunsSession old new end
+  pub status_is : status ≡ status_of end
+  pub told : Tells err_old err_new (line_of end)

@@ -2,7 +2,9 @@ ghost use Rattle.std.specs.Prelude.{◌≡◌, ◌≢◌, ◌↔◌, IsTrue, []}
 ghost use Rattle.std.specs.Io.KnownBytes.{Keeps};
 ghost use Rattle.fd_kinds.specs.History.{IsOpened};
 ghost use Rattle.fd_api.specs.declared.sessions.EndKind.{EndKind};
-ghost use Rattle.fd_local.specs.Runs.{session_words, status_of, line_of, bad_words, Tells, RunsSession};
+ghost use Rattle.fd_api.specs.Streams.{stream, streams};
+ghost use Rattle.fd_local.specs.Runs.{session_words, status_of, line_of, bad_words, Tells};
+ghost use Rattle.fd_local.specs.Runs.{RunsSession, TellsSession};
 
 use fd_api::{EndKind, alone_laws, session};
 use fd_device::{Sink, Source};
@@ -36,16 +38,13 @@ pub fn run<S: Source, K: Sink, E: Sink>(
     // answered.
     ensures words { (result ≡ 1) ↔ (words.now ≢ session_words) }
     ensures refused { words.now ≢ session_words → (input.new ≡ input.old) × (out.new ≡ out.old)
-        × Tells (E.taken err.old) (E.taken err.new) (E.faults err.old) (E.faults err.new)
-        bad_words }
+        × Tells (stream E.taken E.faults err.old) (stream E.taken E.faults err.new) bad_words }
 
     // Else the session comes to an end, of which the status and the line on the error sink tell.
-    ensures session { words.now ≡ session_words → (end : EndKind)
-        × RunsSession (S.left input.old) (S.left input.new) (K.taken out.old) (K.taken out.new)
-        (S.faults input.old) (S.faults input.new) (K.faults out.old) (K.faults out.new) end
-        × (result ≡ status_of end)
-        × Tells (E.taken err.old) (E.taken err.new) (E.faults err.old) (E.faults err.new)
-        (line_of end) }
+    ensures session { words.now ≡ session_words → TellsSession
+        (streams (stream S.left S.faults input.old) (stream K.taken K.faults out.old))
+        (streams (stream S.left S.faults input.new) (stream K.taken K.faults out.new))
+        (stream E.taken E.faults err.old) (stream E.taken E.faults err.new) result }
 
     // A store in memory has no disk that fails.
     ensures memory { result ≢ 5 }
@@ -69,8 +68,8 @@ fn empty_store(alloc: Global) -> Local
 /// A session over an empty store.
 fn serve<S: Source, K: Sink>(alloc: Global, input: &mut S, out: &mut K) -> EndKind
     ensures session { RunsSession
-        (S.left input.old) (S.left input.new) (K.taken out.old) (K.taken out.new)
-        (S.faults input.old) (S.faults input.new) (K.faults out.old) (K.faults out.new) result }
+        (streams (stream S.left S.faults input.old) (stream K.taken K.faults out.old))
+        (streams (stream S.left S.faults input.new) (stream K.taken K.faults out.new)) result }
     ensures memory { result ≢ EndKind.DiskFault }
 {
     let mut store = empty_store(alloc);
@@ -121,8 +120,7 @@ fn line_of(end: EndKind) -> &'static [u8]
 
 /// Writes a line to the error sink, where there is one to write.
 fn tell<E: Sink>(err: &mut E, line: &[u8])
-    ensures { Tells (E.taken err.old) (E.taken err.new) (E.faults err.old) (E.faults err.new)
-        line.now }
+    ensures { Tells (stream E.taken E.faults err.old) (stream E.taken E.faults err.new) line.now }
 {
     if !line.is_empty() {
         let _ = err.write(line);

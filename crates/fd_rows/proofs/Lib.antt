@@ -1,3 +1,4 @@
 pub mod RowSteps
 pub mod Refusals
 pub mod LabelSteps
+pub mod BatchLaws

@@ -12,6 +12,7 @@ mod body;
 mod bounded_rows;
 mod checks;
 mod faults;
+mod laws;
 mod limits;
 mod profiles;
 mod rows;
@@ -22,4 +23,5 @@ mod sorter;
 
 pub use body::batch;
 pub use faults::{BatchFault, LabelFault};
+pub use laws::batch_laws;
 pub use limits::{MOST_BODY_ROW_BYTES, MOST_LABEL_BYTES};

@@ -6,5 +6,5 @@ use fd_program::program;
 use std::process::ExitCode;
 
 fn main(rt: HostRuntime) -> ExitCode {
-    ExitCode::from(program(&rt, rt.stdin(), rt.stdout(), rt.stderr()))
+    program(&rt, rt.stdin(), rt.stdout(), rt.stderr())
 }

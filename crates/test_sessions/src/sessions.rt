@@ -1,7 +1,8 @@
-use fd_api::{EndKind, session};
+use fd_api::{EndKind, Note, session};
 use fd_device::{Calls, MemSink, MemSource, PlainSink, PlainSource};
 use fd_kinds::{Bytes, NoMemory, Store, Texts};
 use fd_local::run;
+use fd_program::command;
 use fd_shelf::Shelf;
 use fd_store::Local;
 use fixtures::{
@@ -9,6 +10,7 @@ use fixtures::{
     repeated, texts, write_of,
 };
 use std::alloc::Global;
+use std::process::ExitCode;
 use std::test::Fail;
 
 /// The words, the pieces of the input, the read and the write that fail (0 for none), and what
@@ -292,6 +294,40 @@ fn end_of_failed_reply(alloc: Global) -> Result<(EndKind, u64), NoMemory> {
 #[test]
 fn a_write_whose_reply_fails_is_in_the_history(rt: HostRuntime) -> Result<(), Fail> {
     assert!(rt; end_of_failed_reply(rt.alloc())? == (EndKind::WriteFault, 1));
+    Ok(())
+}
+
+#[test]
+fn each_request_has_its_note(rt: HostRuntime) -> Result<(), Fail> {
+    let requests = joined(rt.alloc(), &[WRITE, MERGE, b"GET /x HTTP/1.1\r\n\r\n"])?;
+    let mut input = PlainSource::new(requests)?;
+    let mut out = PlainSink::new(rt.alloc())?;
+    let mut store = Local::new(Shelf::new(rt.alloc()));
+    let notes = session(rt.alloc(), &mut store, &mut input, &mut out).notes;
+    let wanted = [Note::Wrote { n: 1 }, Note::Read { w: 1 }, Note::Refused];
+    assert!(rt; notes.as_slice() == wanted.as_slice());
+    Ok(())
+}
+
+/// The exit status over words, and whether this is the line on the error sink.
+fn exit_of(
+    alloc: Global,
+    words: Result<Texts, NoMemory>,
+    line: &[u8],
+) -> Result<(ExitCode, bool), NoMemory> {
+    let mut input = PlainSource::new(Bytes::from_slice(alloc, MERGE)?)?;
+    let mut out = PlainSink::new(alloc)?;
+    let mut err = PlainSink::new(alloc)?;
+    let exit = command(alloc, words, &mut input, &mut out, &mut err);
+    Ok((exit, err.taken() == line))
+}
+
+#[test]
+fn the_exit_status_is_that_of_the_command(rt: HostRuntime) -> Result<(), Fail> {
+    let words = words_of(rt.alloc(), Some("session"));
+    assert!(rt; exit_of(rt.alloc(), words, b"")? == (ExitCode::from(0), true));
+    let line = b"frostd: no memory\n";
+    assert!(rt; exit_of(rt.alloc(), Err(NoMemory), line)? == (ExitCode::from(7), true));
     Ok(())
 }
 

@@ -7,7 +7,7 @@ loop-served-init g c =
     let none : c.new-notes.result.items ≡ [] = c.new-notes.ensures in
     let empty : c.in-Ok.inbox ≡ [] = c.in-Ok.ensures.empty in
     record {
-      so_far = rw empty (none_yet g.T.Store.write_gives g.T.Store.read_gives g.T.Store.stand_gives _ _ _ _ none);
+      so_far = rw empty (none_yet g.T.Store.write_gives g.T.Store.read_gives g.T.Store.stand_gives _ _ _ none);
       source = search rules;
       sink = search rules;
       disk = search rules;
@@ -18,20 +18,20 @@ pub returns-in-Some-clause-ends : goal.returns-in-Some-clause-ends
 returns-in-Some-clause-ends g c =
     let below : c.loop-served.served < 100000 = c.loop-served-test.true in
     let some : 0 < 100000 - c.loop-served.served = omega arith in
-    rw c.into_items-in-Some.ensures
-    (turn_ends g.T.Store.write_gives g.T.Store.read_gives g.T.Store.stand_gives _ _ _ _ _ _ _ _ _ _ _ c.loop-served.invariant.sink _ _ _ _ _ _ c.loop-served.invariant.so_far some _ c.in-Some.end (last_of c.loop-served.served below) c.in-Some.ensures.turned).0
+    rw c.of-in-Some.ensures
+    (turn_ends g.T.Store.write_gives g.T.Store.read_gives g.T.Store.stand_gives _ _ _ _ _ c.loop-served.invariant.so_far some c.loop-served.invariant.sink _ c.in-Some.end (last_of c.loop-served.served below) c.in-Some.ensures.turned).0
 
 pub returns-in-Some-clause-sink : goal.returns-in-Some-clause-sink
 returns-in-Some-clause-sink g c =
     let below : c.loop-served.served < 100000 = c.loop-served-test.true in
     let some : 0 < 100000 - c.loop-served.served = omega arith in
-    (turn_ends g.T.Store.write_gives g.T.Store.read_gives g.T.Store.stand_gives _ _ _ _ _ _ _ _ _ _ _ c.loop-served.invariant.sink _ _ _ _ _ _ c.loop-served.invariant.so_far some _ c.in-Some.end (last_of c.loop-served.served below) c.in-Some.ensures.turned).1
+    (turn_ends g.T.Store.write_gives g.T.Store.read_gives g.T.Store.stand_gives _ _ _ _ _ c.loop-served.invariant.so_far some c.loop-served.invariant.sink _ c.in-Some.end (last_of c.loop-served.served below) c.in-Some.ensures.turned).1
 
 pub loop-served-preserved : goal.loop-served-preserved
 loop-served-preserved g c =
     let below : c.loop-served.served < 100000 = c.loop-served-test.true in
     let some : 0 < 100000 - c.loop-served.served = omega arith in
-    let on = turn_goes_on g.T.Store.write_gives g.T.Store.read_gives g.T.Store.stand_gives _ _ _ _ _ _ _ _ _ _ _ c.loop-served.invariant.sink _ _ _ _ _ _ c.loop-served.invariant.so_far some _ (last_of c.loop-served.served below) c.in_default.ensures.turned in
+    let on = turn_goes_on g.T.Store.write_gives g.T.Store.read_gives g.T.Store.stand_gives _ _ _ _ _ c.loop-served.invariant.so_far some c.loop-served.invariant.sink _ (last_of c.loop-served.served below) c.in_default.ensures.turned in
     let fewer : 100000 - c.loop-served.served - 1 ≡ 100000 - (c.loop-served.served + 1) = omega arith in
     record {
       so_far = rw (← fewer) on.0;
@@ -45,4 +45,4 @@ pub returns-clause-ends : goal.returns-clause-ends
 returns-clause-ends g c =
     let none : 100000 - c.loop-served.served ≡ 0 = omega arith in
     let so_far = rw none at c.loop-served.invariant.so_far in
-    rw c.into_items-2.ensures (limit_ends g.T.Store.write_gives g.T.Store.read_gives g.T.Store.stand_gives _ _ _ _ _ 0 0 _ _ _ so_far)
+    rw c.of-2.ensures (limit_ends g.T.Store.write_gives g.T.Store.read_gives g.T.Store.stand_gives _ _ _ so_far)

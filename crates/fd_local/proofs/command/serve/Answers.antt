@@ -7,7 +7,7 @@ returns-clause-session g c = record {
   last = c.session.new.store;
   opened = c.empty_store-store.ensures;
   ends = c.session.ensures.ends;
-  ran = c.alone_laws.ensures.session _ _ _ _ _ _ _ _ _ _ c.session.ensures.ends;
+  ran = c.alone_laws.ensures.session _ _ _ _ _ _ c.session.ensures.ends;
   source = c.session.ensures.source;
   sink = c.session.ensures.sink;
 }
