@@ -1,5 +1,9 @@
-ghost use Rattle.std.specs.Prelude.{◌≡◌, ◌≤◌, [], length, OnOk, OnErr, IsOk, IfOk, MatchResult};
-ghost use Rattle.fd_device.specs.Images.{present, pending_images, Stays, Adds};
+ghost use Rattle.std.specs.Prelude.{◌≡◌, ◌≤◌, ◌+◌, [], length, take, drop};
+ghost use Rattle.std.specs.Prelude.{OnOk, OnErr, IsOk, IfOk, MatchResult};
+ghost use Rattle.fd_device.specs.Images.{present, pending_images, past_images, Stays, Adds};
+ghost use Rattle.fd_device.specs.Images.{Passes, Fails};
+ghost use Rattle.fd_device.specs.Disks.{written, changed, Torn, Cut, Steps, Follows};
+ghost use Rattle.fd_device.specs.Disks.{NoneNew, IsDurable, Elapses};
 ghost use Rattle.fd_device.specs.Causes.{Rose};
 
 use crate::calls::Schedule;
@@ -94,6 +98,8 @@ impl MemDisk {
         ensures ok { OnOk result (Adds (Change.Write file at piece.now)
             self.old.recording self.new.recording) }
         ensures err { OnErr result (Stays self.old.recording self.new.recording) }
+        ensures schedule { MatchResult result (λ _. Passes self.old self.new)
+            (λ _. Fails self.old self.new) }
         ensures cause { MatchResult result (λ _. self.new.faults ≡ self.old.faults)
             (λ _. Rose self.old.faults self.new.faults) }
     {
@@ -111,6 +117,8 @@ impl MemDisk {
         ensures ok { OnOk result (Adds (Change.Cut file size)
             self.old.recording self.new.recording) }
         ensures err { OnErr result (Stays self.old.recording self.new.recording) }
+        ensures schedule { MatchResult result (λ _. Passes self.old self.new)
+            (λ _. Fails self.old self.new) }
         ensures cause { MatchResult result (λ _. self.new.faults ≡ self.old.faults)
             (λ _. Rose self.old.faults self.new.faults) }
     {
@@ -126,6 +134,8 @@ impl MemDisk {
     fn settle(&mut self, file: FileId) -> Result<(), DiskFault>
         ensures ok { OnOk result (Adds (Change.Sync file) self.old.recording self.new.recording) }
         ensures err { OnErr result (Stays self.old.recording self.new.recording) }
+        ensures schedule { MatchResult result (λ _. Passes self.old self.new)
+            (λ _. Fails self.old self.new) }
         ensures cause { MatchResult result (λ _. self.new.faults ≡ self.old.faults)
             (λ _. Rose self.old.faults self.new.faults) }
     {
@@ -162,14 +172,38 @@ impl Disk for MemDisk {
     ghost only_now = { λ d image honest was.
         image_only_now (began d.recording) d.recording.changes image was };
 
-    fn length(&mut self, file: FileId) -> Result<u64, DiskFault> {
+    fn length(&mut self, file: FileId) -> Result<u64, DiskFault>
+        ensures value { IfOk result (λ n. n ≡ length (present self.old file)) }
+        ensures seen { present self.new ≡ present self.old }
+        ensures crash { NoneNew (pending_images self.old) (pending_images self.new) }
+        ensures time { Elapses (length self.old.recording.changes)
+            (length self.new.recording.changes) (past_images self.old) (past_images self.new)
+            (pending_images self.new) }
+        ensures cause { MatchResult result (λ _. self.new.faults ≡ self.old.faults)
+            (λ _. Rose self.old.faults self.new.faults) }
+        ensures schedule { MatchResult result (λ _. Passes self.old self.new)
+            (λ _. Fails self.old self.new) }
+    {
         if self.schedule.is_listed() {
             return Err(DiskFault);
         }
         Ok(self.recorder.bytes_of(file).len() as u64)
     }
 
-    fn read_at(&mut self, file: FileId, at: u64, piece: &mut [u8]) -> Result<(), DiskFault> {
+    fn read_at(&mut self, file: FileId, at: u64, piece: &mut [u8]) -> Result<(), DiskFault>
+        requires { at + length piece.old ≤ length (present self.old file) }
+        ensures bytes { OnOk result
+            (piece.new ≡ take (length piece.old) (drop at (present self.old file))) }
+        ensures seen { present self.new ≡ present self.old }
+        ensures crash { NoneNew (pending_images self.old) (pending_images self.new) }
+        ensures time { Elapses (length self.old.recording.changes)
+            (length self.new.recording.changes) (past_images self.old) (past_images self.new)
+            (pending_images self.new) }
+        ensures cause { MatchResult result (λ _. self.new.faults ≡ self.old.faults)
+            (λ _. Rose self.old.faults self.new.faults) }
+        ensures schedule { MatchResult result (λ _. Passes self.old self.new)
+            (λ _. Fails self.old self.new) }
+    {
         if self.schedule.is_listed() {
             return Err(DiskFault);
         }
@@ -178,15 +212,57 @@ impl Disk for MemDisk {
         Ok(())
     }
 
-    fn write_at(&mut self, file: FileId, at: u64, piece: &[u8]) -> Result<(), DiskFault> {
+    fn write_at(&mut self, file: FileId, at: u64, piece: &[u8]) -> Result<(), DiskFault>
+        requires { at ≤ length (present self.old file) }
+        ensures written { OnOk result
+            (present self.new ≡ changed file (written at piece.now) (present self.old)) }
+        ensures failed { OnErr result
+            (Steps file (Torn at (length piece.now)) (present self.old) (present self.new)) }
+        ensures crash { Follows (Steps file (Torn at (length piece.now)))
+            (pending_images self.old) (pending_images self.new) }
+        ensures time { Elapses (length self.old.recording.changes)
+            (length self.new.recording.changes) (past_images self.old) (past_images self.new)
+            (pending_images self.new) }
+        ensures cause { MatchResult result (λ _. self.new.faults ≡ self.old.faults)
+            (λ _. Rose self.old.faults self.new.faults) }
+        ensures schedule { MatchResult result (λ _. Passes self.old self.new)
+            (λ _. Fails self.old self.new) }
+    {
         self.write(file, at, piece)
     }
 
-    fn cut(&mut self, file: FileId, size: u64) -> Result<(), DiskFault> {
+    fn cut(&mut self, file: FileId, size: u64) -> Result<(), DiskFault>
+        requires { size ≤ length (present self.old file) }
+        ensures cut { OnOk result
+            (present self.new ≡ changed file (take size) (present self.old)) }
+        ensures failed { OnErr result
+            (Steps file (Cut size) (present self.old) (present self.new)) }
+        ensures crash { Follows (Steps file (Cut size))
+            (pending_images self.old) (pending_images self.new) }
+        ensures time { Elapses (length self.old.recording.changes)
+            (length self.new.recording.changes) (past_images self.old) (past_images self.new)
+            (pending_images self.new) }
+        ensures cause { MatchResult result (λ _. self.new.faults ≡ self.old.faults)
+            (λ _. Rose self.old.faults self.new.faults) }
+        ensures schedule { MatchResult result (λ _. Passes self.old self.new)
+            (λ _. Fails self.old self.new) }
+    {
         self.shorten(file, size)
     }
 
-    fn sync(&mut self, file: FileId) -> Result<(), DiskFault> {
+    fn sync(&mut self, file: FileId) -> Result<(), DiskFault>
+        ensures durable { OnOk result
+            (IsDurable file (present self.old) (pending_images self.new)) }
+        ensures seen { present self.new ≡ present self.old }
+        ensures crash { NoneNew (pending_images self.old) (pending_images self.new) }
+        ensures time { Elapses (length self.old.recording.changes)
+            (length self.new.recording.changes) (past_images self.old) (past_images self.new)
+            (pending_images self.new) }
+        ensures cause { MatchResult result (λ _. self.new.faults ≡ self.old.faults)
+            (λ _. Rose self.old.faults self.new.faults) }
+        ensures schedule { MatchResult result (λ _. Passes self.old self.new)
+            (λ _. Fails self.old self.new) }
+    {
         self.settle(file)
     }
 
