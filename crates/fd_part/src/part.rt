@@ -120,8 +120,8 @@ impl Part {
         }
     }
 
-    /// The batches of the numbers that have rows, in the order of the numbers; each other number has
-    /// a batch without rows. It goes over the rows once.
+    /// The batches of the numbers that have rows, in the order of the numbers; each other number
+    /// has a batch without rows. It goes over the rows once.
     pub fn batches(&self) -> Result<Batches, NoMemory>
         requires { (part_meaning self.now).hi < 2 ^ 63 }
         ensures order { IfOk result (λ batches. Rises 0 batches) }

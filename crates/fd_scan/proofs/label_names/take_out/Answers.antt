@@ -10,3 +10,11 @@ loop-text-preserved c =
     ∙ sym (undone_last c.loop-text.texts.keys c.pop.new.self c.in-Some.text)
     ∙ ap (undone c.loop-text.texts.keys) (sym noted)
     ∙ c.loop-text.invariant
+
+pub loop-text-preserved-in-Some : goal.loop-text-preserved-in-Some
+loop-text-preserved-in-Some c =
+    let noted : c.loop-text.noted ≡ c.pop.new.self ++ c.in-Some.text ∷ [] = search rules in
+    ap (λ keys. undone keys c.pop.new.self) c.remove.ensures.keys
+    ∙ sym (undone_last c.loop-text.texts.keys c.pop.new.self c.in-Some.text)
+    ∙ ap (undone c.loop-text.texts.keys) (sym noted)
+    ∙ c.loop-text.invariant
