@@ -1,11 +1,12 @@
 -- A load of the greatest number drawn keeps the rule.
-use Rattle.std.proofs.Common.{◌≡◌, ℕ, ◌+◌, ◌^◌, false, set, sym, refl, ap, subst, arith}
+use Rattle.std.proofs.Common.{◌≡◌, ℕ, ◌+◌, false, set, sym, refl, ap, subst, arith}
 use Rattle.std.proofs.Math.Dec.{ltb}
 use Rattle.std.proofs.lemmas.Bool.{le-ltb}
 use mathlib.Core.Logic.{dite}
 use mathlib.Core.Option.{none}
 use native.Mathlib.Decide.{dec_lt}
 use Rattle.atomic_table.specs.Table.{step, keeps, Allows}
+use Rattle.fd_kinds.specs.declared.limits.TheConstants.{MOST_NUMBERS}
 use Rattle.fd_kinds.specs.Parts.{PartMeaning}
 use Rattle.fd_shelf.specs.Books.{Shelved}
 use Rattle.fd_rule.specs.Tables.{TableState, Seated, Sits, after, word}
@@ -25,8 +26,8 @@ module _ (P : Type 0) (means : P → PartMeaning) (start : Shelved) (seats : ℕ
   keeps_drawn s r id v sits = let at = sits.at in let x : ℕ = word s 0 in let w : View = with_drawn x v in let k = r.saw.known id v at in let d = r.draws.known id v at in let is : x ≡ r.g.drawn = r.words.drawn_is in let low = r.order.marks_drawn in let size = length_set s.views id w in
       let sums = sum_set clearance s.views id v w at in let most = sum_most clearance (set s.views id w) (λ x. one_most x.draws.cleared) in
       looks P means start seats s r id v w (set s.words 0 x) r.g.pin r.g.pinned at sits.live refl refl refl refl
-      (λ h. dite (dec_lt x (2 ^ 62)) (λ yes. omega arith) (λ no. let off : one_if (ltb x (2 ^ 62)) ≡ 0 = ap one_if (le-ltb x (2 ^ 62) (omega arith)) in let old = r.counts.room (omega arith) in omega arith))
-      (load r.words 0) (draw_flag v.draws (ltb x (2 ^ 62)) v.draws.empty d.empty d) (r.hands.known id v at)
+      (λ h. dite (dec_lt x MOST_NUMBERS) (λ yes. omega arith) (λ no. let off : one_if (ltb x MOST_NUMBERS) ≡ 0 = ap one_if (le-ltb x MOST_NUMBERS (omega arith)) in let old = r.counts.room (omega arith) in omega arith))
+      (load r.words 0) (draw_flag v.draws (ltb x MOST_NUMBERS) v.draws.empty d.empty d) (r.hands.known id v at)
       record { history = k.history; marks = k.marks; drawns = upto_more r.g.drawn x v.seen.drawns (omega arith) k.drawns; synceds = k.synceds; others = k.others } (r.kept.known id v at) (pins_same r.pins id v w at refl)
 
   pub drawn_load_event : (id : ℕ) (s t : TableState P) → Rule s → Happens id s t → Rule t

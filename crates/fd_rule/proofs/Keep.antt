@@ -1,10 +1,11 @@
 -- What holds still where one view changes little.
-use Rattle.std.proofs.Common.{◌≡◌, ◌≢◌, ◌⊎◌, ℕ, zero, suc, ◌+◌, ◌-◌, ◌^◌, ◌<◌, ◌≤◌, Bool, true, false, ◌||◌, ◌&&◌, cond, List, [], ◌∷◌, ◌++◌, length, set, min, sym, refl, ap, ◌∙◌, subst, ⊎_elim, inl, inr, arith, eqb, ne_eqb}
+use Rattle.std.proofs.Common.{◌≡◌, ◌≢◌, ◌⊎◌, ℕ, zero, suc, ◌+◌, ◌-◌, ◌<◌, ◌≤◌, Bool, true, false, ◌||◌, ◌&&◌, cond, List, [], ◌∷◌, ◌++◌, length, set, min, sym, refl, ap, ◌∙◌, subst, ⊎_elim, inl, inr, arith, eqb, ne_eqb}
 use mathlib.Core.Logic.{dite}
 use mathlib.Core.Option.{Option, some}
 use native.Mathlib.Decide.{ℕ_discrete}
 use lib.ListN.{get_elem?}
 use Rattle.fd_kinds.specs.declared.row.Row.{Row}
+use Rattle.fd_kinds.specs.declared.limits.TheConstants.{MOST_NUMBERS}
 use Rattle.fd_kinds.specs.Parts.{PartMeaning, loose_part}
 use Rattle.fd_kinds.specs.Stores.{Written}
 use Rattle.fd_shelf.specs.Books.{Book, Shelved, all_parts}
@@ -134,7 +135,7 @@ module _ {vs : List View} (id : ℕ) (v w : View) (at : get_elem? vs id ≡ some
     pub splitters_same : w.place ≡ v.place → sum splitting (set vs id w) ≡ 1
     splitters_same e = sum_same splitting vs id v w at (ap (λ (p : Place). one_if p.splits) e) ∙ c.splitters
 
-    pub room_same : w.draws.cleared ≡ v.draws.cleared → start < drawn + sum clearance (set vs id w) → drawn + sum clearance (set vs id w) ≤ 2 ^ 62 + length (set vs id w)
+    pub room_same : w.draws.cleared ≡ v.draws.cleared → start < drawn + sum clearance (set vs id w) → drawn + sum clearance (set vs id w) ≤ MOST_NUMBERS + length (set vs id w)
     room_same e h = let n = length_set vs id w in let z = sum_same clearance vs id v w at (ap one_if e) in let x = c.room (omega (arith, h, z)) in omega (arith, x, z, n)
 
     pub counts_same : w.place ≡ v.place → w.draws.own ≡ v.draws.own → w.draws.cleared ≡ v.draws.cleared → w.turn.holds ≡ v.turn.holds → Counts start drawn taken (set vs id w)
@@ -146,7 +147,7 @@ module _ (P : Type 0) (means : P → PartMeaning) (start : Shelved) (seats : ℕ
 
   -- a step that changes what the seat has seen, how it stands to its pin, and what it knows of its own draws
   pub looks : (s : TableState P) (r : Rule s) (id : ℕ) (v w : View) (ws : List ℕ) (pin pinned : ℕ → ℕ) → get_elem? s.views id ≡ some v → v.place.spent ≡ false → w.place ≡ v.place → w.turn.holds ≡ v.turn.holds → w.draws.own ≡ v.draws.own → w.seen.announced ≡ v.seen.announced
-      → (start.mark < r.g.drawn + sum clearance (set s.views id w) → r.g.drawn + sum clearance (set s.views id w) ≤ 2 ^ 62 + length (set s.views id w))
+      → (start.mark < r.g.drawn + sum clearance (set s.views id w) → r.g.drawn + sum clearance (set s.views id w) ≤ MOST_NUMBERS + length (set s.views id w))
       → Words seats ws r.g.drawn r.g.mark r.g.taken r.g.synced r.g.floor r.g.lane pin
       → Drawing start.mark r.g.drawn r.g.book r.g.batch_of r.g.lane r.g.stage id w.draws
       → Hands seats r.g.taken r.g.mark r.g.book r.g.batch_of r.g.lane r.g.stage id w.turn

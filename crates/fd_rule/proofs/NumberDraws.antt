@@ -8,11 +8,13 @@ use lib.ListN.{get_elem?}
 use Rattle.atomic_table.specs.Table.{step, takes, Allows}
 use Rattle.atomic_table.proofs.Lists.{set_else}
 use Rattle.fd_kinds.specs.declared.row.Row.{Row}
+use Rattle.fd_kinds.specs.declared.limits.TheConstants.{MOST_NUMBERS}
 use Rattle.fd_kinds.specs.Parts.{PartMeaning, loose_part}
 use Rattle.fd_kinds.specs.History.{IsSmall}
 use Rattle.fd_kinds.specs.Stores.{Written}
 use Rattle.fd_shelf.specs.Books.{Shelved}
 use Rattle.fd_shelf.specs.Histories.{in_row_order}
+use Rattle.fd_rule.specs.declared.limits.TheConstants.{MOST_SEATS}
 use Rattle.fd_rule.specs.Tables.{TableState, Seated, Sits, after, word}
 use Rattle.fd_rule.specs.View.{Hand, bare, laden, Draws, View}
 use Rattle.fd_rule.specs.Rule.{Stage, free, flying, full, looked, LaneOk, one_if, owns, clearance, Owned, Draw, Drawing, HandOk, Ruled}
@@ -32,7 +34,7 @@ module _ (P : Type 0) (means : P → PartMeaning) (start : Shelved) (seats : ℕ
   keeps_number : (rows : List Row) (s : TableState P) (r : Rule s) (id : ℕ) (v : View) → Sits s id v → MayDraw v.draws → IsSmall rows → Rule (after s 0 (word s 0 + 1) (set s.homes (1 + id) none) id (with_number (word s 0 + 1) rows v))
   keeps_number rows s r id v sits may few_bytes = let at = sits.at in let live = sits.live in let can = may.cleared in let empty = may.empty in let none_flies = may.landed in let x : ℕ = word s 0 in let now : x ≡ r.g.drawn = r.words.drawn_is in let w : View = with_number (x + 1) rows v in let o = r.order in let opening_low = o.opening_low in let ordered = o.marks_drawn in let bounded = o.small in
       let count = r.roster.count in let few = r.roster.few in let size = length_set s.views id w in let sums = sum_set clearance s.views id v w at in let one : one_if v.draws.cleared ≡ 1 = ap one_if can in let mine_too = sum_one clearance s.views id v at in let room = r.counts.room (omega arith) in
-      let fits : x + 1 < 2 ^ 63 = omega arith in
+      let most : MOST_NUMBERS ≡ 2 ^ 62 = refl in let seated : MOST_SEATS ≡ 64 = refl in let fits : x + 1 < 2 ^ 63 = omega arith in
       let batch' : ℕ → List Row = put r.g.batch_of (x + 1) rows in let stage' : ℕ → Stage = put r.g.stage id flying in let k = r.saw.known id v at in let d = r.draws.known id v at in let f = is_free P means start seats s r id v at empty none_flies in let inside = f.0 in let number = (r.roster.places.known id v at).number live in
       let home_is : get_elem? s.homes (1 + id) ≡ some (some Empty) = (subst (LaneOk means r.g.batch_of (r.g.lane id) (get_elem? s.homes (1 + id))) f.1 (r.lanes.ok id inside)).1 in
       let old_batch : (n : ℕ) → n ≤ r.g.drawn → r.g.batch_of n ≡ batch' n = λ n h. sym (put_else r.g.batch_of (x + 1) rows n (λ e. omega arith)) in
@@ -130,7 +132,7 @@ module _ (P : Type 0) (means : P → PartMeaning) (start : Shelved) (seats : ℕ
   pub allows_number_draw : (slots id : ℕ) (rows : List Row) (me : Seated P) → me.0.place.spent ≡ false → MayDraw me.0.draws → IsSmall rows → Allows Rule slots id me 0 (λ n. (n + 1) % 2 ^ 64) (told rows (step slots 0 1 0 none) me)
   allows_number_draw slots id rows me live may few_bytes s r deep at small = let v : View = me.0 in let sits : Sits s id v = record { at = at; live = live } in let x : ℕ = word s 0 in let now : x ≡ r.g.drawn = r.words.drawn_is in let d = r.draws.known id v at in let number = (r.roster.places.known id v at).number live in
       let o = r.order in let opening_low = o.opening_low in let ordered = o.marks_drawn in let bounded = o.small in let can = may.cleared in let one : one_if v.draws.cleared ≡ 1 = ap one_if can in let mine_too = sum_one clearance s.views id v at in let room = r.counts.room (omega arith) in let count = r.roster.count in let few = r.roster.few in
-      let fits : x + 1 < 2 ^ 63 = omega arith in let next : (x + 1) % 2 ^ 64 ≡ x + 1 = mod-eq_of_lt (omega arith) in let f = is_free P means start seats s r id v at may.empty may.landed in
+      let most : MOST_NUMBERS ≡ 2 ^ 62 = refl in let seated : MOST_SEATS ≡ 64 = refl in let fits : x + 1 < 2 ^ 63 = omega arith in let next : (x + 1) % 2 ^ 64 ≡ x + 1 = mod-eq_of_lt (omega arith) in let f = is_free P means start seats s r id v at may.empty may.landed in
       let home_is : get_elem? s.homes (1 + id) ≡ some (some Empty) = (subst (LaneOk means r.g.batch_of (r.g.lane id) (get_elem? s.homes (1 + id))) f.1 (r.lanes.ok id f.0)).1 in (
         with_number (x + 1) rows v,
         takes (1 + id) Empty,

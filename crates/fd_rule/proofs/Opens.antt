@@ -8,6 +8,7 @@ use Rattle.fd_shelf.specs.Books.{Shelved, all_parts, settled_parts}
 use Rattle.fd_shelf.specs.Marks.{IsBook}
 use Rattle.fd_shelf.specs.Histories.{hist}
 use Rattle.fd_shelf.specs.Numbers.{IsIn}
+use Rattle.fd_rule.specs.declared.limits.TheConstants.{MOST_SEATS}
 use Rattle.fd_rule.specs.Tables.{TableState, empties}
 use Rattle.fd_rule.specs.View.{IDLE, NONE, View, first, idle_words}
 use Rattle.fd_rule.specs.Rule.{free, one_if, Ruled}
@@ -25,7 +26,7 @@ module _ (P : Type 0) (means : P → PartMeaning) (start : Shelved) (seats : ℕ
   abbrev all_slots : ℕ → List (SlotValue P)
   all_slots n = Home start ∷ empties n
 
-  pub opens : (laws : BookLaws) (synced : ℕ) (ws : List ℕ) (slots : List (SlotValue P)) → 0 < seats → seats ≤ 64 → synced ≤ start.mark → IsBook start.book start.mark → start.book.stragglers ≡ [] → ws ≡ start.mark ∷ start.mark ∷ 0 ∷ synced ∷ start.mark ∷ idle_words seats → slots ≡ Home start ∷ empties seats
+  pub opens : (laws : BookLaws) (synced : ℕ) (ws : List ℕ) (slots : List (SlotValue P)) → 0 < seats → seats ≤ MOST_SEATS → synced ≤ start.mark → IsBook start.book start.mark → start.book.stragglers ≡ [] → ws ≡ start.mark ∷ start.mark ∷ 0 ∷ synced ∷ start.mark ∷ idle_words seats → slots ≡ Home start ∷ empties seats
       → Rule (opening ws slots (first start synced))
   opens laws synced ws slots at_least_one few low well none_wait words_are slots_are = let v : View = first start synced in let bounded = laws.bounded start.book start.mark well in let all_are : all_parts start.book ≡ settled_parts start.book = ap (λ l. settled_parts start.book ++ l) none_wait ∙ append-nil (settled_parts start.book) in
       let held_low : (n : ℕ) → IsIn n (all_parts start.book) → n ≤ start.mark = λ n h. laws.only start.book start.mark n well (subst (λ ps. IsIn n ps) all_are h) in

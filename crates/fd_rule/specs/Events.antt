@@ -24,6 +24,7 @@ use Rattle.fd_rule.specs.Kinds.SyncedLoad.{Happens as LoadsSynced}
 use Rattle.fd_rule.specs.Kinds.TurnReturn.{Happens as GivesTurn}
 use Rattle.fd_rule.specs.Kinds.TurnTry.{Happens as TriesTurn}
 use Rattle.fd_rule.specs.Tables.{TableState, empties}
+use Rattle.fd_rule.specs.declared.limits.TheConstants.{MOST_SEATS}
 use Rattle.fd_rule.specs.View.{first, first_words}
 use Rattle.fd_rule.specs.declared.slot.SlotValue.TheVariants.{Home}
 
@@ -77,7 +78,7 @@ Reaches {P} means seats s (e ∷ es) t = (m : TableState P) × Leads means seats
 -- what a table may be made with
 pub record MayOpen (start : Shelved) (synced seats : ℕ) : Type 0 where
   pub some : 0 < seats
-  pub few : seats ≤ 64
+  pub few : seats ≤ MOST_SEATS
   pub synced_low : synced ≤ start.mark
   pub order : IsBook start.book start.mark
   pub settled : start.book.stragglers ≡ []

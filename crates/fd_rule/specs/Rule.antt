@@ -7,6 +7,7 @@ use mathlib.Core.Option.{Option, some}
 use lib.ListN.{get_elem?}
 use Rattle.fd_kinds.specs.declared.row.Row.{Row}
 use Rattle.fd_kinds.specs.Parts.{PartMeaning, loose_part}
+use Rattle.fd_kinds.specs.declared.limits.TheConstants.{MOST_NUMBERS}
 use Rattle.fd_kinds.specs.History.{History, IsSmall}
 use Rattle.fd_kinds.specs.Stores.{Written, Grows}
 use Rattle.fd_shelf.specs.Books.{Book, Shelved, all_parts}
@@ -14,6 +15,7 @@ use Rattle.fd_shelf.specs.Marks.{IsBook}
 use Rattle.fd_shelf.specs.Books.{Each as AllOf}
 use Rattle.fd_shelf.specs.Histories.{hist, batch_at, in_row_order}
 use Rattle.fd_shelf.specs.Numbers.{IsIn, IsInSealed, Keeps}
+use Rattle.fd_rule.specs.declared.limits.TheConstants.{MOST_SEATS}
 use Rattle.fd_rule.specs.Lists.{AllUpto, In}
 use Rattle.fd_rule.specs.Tables.{TableState, Homes}
 use Rattle.fd_rule.specs.View.{IDLE, NONE, PinState, idle, arriving, settled, Hand, bare, laden, Place, TurnView, Draws, Knowledge, Pinning, View, no_view}
@@ -161,13 +163,13 @@ splitting v = one_if v.place.splits
 
 -- Each number above the opening mark was drawn once, each seat's number stands in one view, the turn is held once where it
 -- is taken, and one seat splits others off. Where a number was drawn or a seat is cleared to draw, the greatest number drawn and the seats that are cleared
--- are at most 2^62 and the seats ever made, so that no number reaches 2^63.
+-- are at most `MOST_NUMBERS` and the seats ever made, so that no number reaches 2^63.
 pub record Counts (start drawn taken : ℕ) (vs : List View) : Type 0 where
   pub numbers : (n : ℕ) → start < n → sum (owns n) vs ≡ min 1 (drawn + 1 - n)
   pub seats : (k : ℕ) → sum (seated k) vs ≡ min 1 (length vs - k)
   pub holders : sum holding vs ≡ min 1 taken
   pub splitters : sum splitting vs ≡ 1
-  pub room : start < drawn + sum clearance vs → drawn + sum clearance vs ≤ 2 ^ 62 + length vs
+  pub room : start < drawn + sum clearance vs → drawn + sum clearance vs ≤ MOST_NUMBERS + length vs
 
 -- A seat that is not spent has the number of its place, and the one that splits others off has those to come.
 pub record Placed (count splitter j : ℕ) (p : Place) : Type 0 where
@@ -176,7 +178,7 @@ pub record Placed (count splitter j : ℕ) (p : Place) : Type 0 where
 
 -- the seats that were made
 pub record Roster (seats splitter : ℕ) (vs : List View) : Type 0 where
-  pub few : seats ≤ 64
+  pub few : seats ≤ MOST_SEATS
   pub count : length vs ≤ seats
   pub places : Each place vs (Placed (length vs) splitter)
 

@@ -1,4 +1,5 @@
 ghost use Rattle.std.specs.Prelude.{◌≡◌, ◌≤◌, ◌<◌, ◌+◌, ◌*◌, ℕ};
+ghost use Rattle.fd_rule.specs.declared.limits.TheConstants.{MOST_SEATS};
 
 use crate::slot::SlotValue;
 use crate::view::SeatView;
@@ -38,7 +39,7 @@ pub struct Base<P: Held> {
     pub(crate) count: u32,
     ghost counted: { board.shared.key.seats ≡ count },
     ghost some: { 0 < count },
-    ghost few: { board.shared.key.seats ≤ 64 },
+    ghost few: { board.shared.key.seats ≤ MOST_SEATS },
     ghost wide: { board.shared.table_id.words ≡ 2 * board.shared.key.seats + 5 },
     ghost deep: { board.shared.table_id.slots ≡ board.shared.key.seats + 1 },
 }

@@ -17,6 +17,7 @@ mod base;
 mod ending;
 mod kinds;
 mod laws;
+pub mod limits;
 mod made;
 mod opening;
 mod pass;

@@ -6,6 +6,7 @@ ghost use Rattle.fd_rule.specs.Seats.{pass_seats, pass_table, pass_view};
 ghost use Rattle.fd_rule.specs.Slots.{Opens, HandedBack, rest_of};
 ghost use Rattle.fd_rule.specs.Tables.{empties};
 ghost use Rattle.fd_rule.specs.View.{first, first_words};
+ghost use Rattle.fd_rule.specs.declared.limits.TheConstants.{MOST_SEATS};
 ghost use Rattle.fd_rule.specs.declared.slot.SlotValue.TheVariants.{Home};
 
 use crate::base::{Base, Opening};
@@ -114,7 +115,7 @@ fn base_of<P: Held>(
 }
 
 impl<P: Held> Base<P> {
-    /// A base over a shelf without stragglers, for 1 to 64 seats. `synced` is the greatest number
+    /// A base over a shelf without stragglers, for 1 to `MOST_SEATS` seats. `synced` is the greatest number
     /// reported synced so far.
     pub fn make(
         alloc: Global,
@@ -122,7 +123,7 @@ impl<P: Held> Base<P> {
         synced: u64,
         seats: u32,
     ) -> Result<Made<P>, NotMade<P>>
-        requires seats { (0 < seats) × (seats ≤ 64) }
+        requires seats { (0 < seats) × (seats ≤ MOST_SEATS) }
         requires synced { synced ≤ shelf.mark }
         requires stragglers { shelf.book.stragglers ≡ [] }
         ensures base { IfOk result (λ made. pass_table made.first ≡ base_table made.base) }

@@ -1,5 +1,6 @@
 ghost use Rattle.std.specs.Prelude.{◌≡◌, ◌≤◌, ◌<◌, ◌+◌, ◌*◌, false, []};
 ghost use Rattle.fd_rule.specs.Passes.{view_of};
+ghost use Rattle.fd_rule.specs.declared.limits.TheConstants.{MOST_SEATS};
 
 use crate::base::{Base, Board};
 use crate::pass::Pass;
@@ -24,7 +25,7 @@ pub struct Seat<'a, P: Held> {
     ghost splitting: { inner.me.0.place.splits ≡ splits },
     ghost scanning: { inner.me.0.pinning.next ≡ scan },
     ghost counted: { board.now.shared.key.seats ≡ count },
-    ghost few: { board.now.shared.key.seats ≤ 64 },
+    ghost few: { board.now.shared.key.seats ≤ MOST_SEATS },
     ghost here: { inner.me.0.place.spent ≡ false },
     ghost wide: { board.now.shared.table_id.words ≡ 2 * board.now.shared.key.seats + 5 },
     ghost deep: { board.now.shared.table_id.slots ≡ board.now.shared.key.seats + 1 },

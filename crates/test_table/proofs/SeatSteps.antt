@@ -4,6 +4,7 @@ use mathlib.Core.Logic.{dite}
 use native.Mathlib.Decide.{ℕ_discrete}
 use Rattle.std.proofs.lemmas.Bool.{lt-ltb}
 use Rattle.atomic_table.specs.Table.{rest}
+use Rattle.fd_kinds.specs.declared.limits.TheConstants.{MOST_NUMBERS}
 use Rattle.fd_kinds.specs.Parts.{PartMeaning, loose_part}
 use Rattle.fd_kinds.specs.Stores.{Written}
 use Rattle.fd_shelf.specs.Books.{Book, Shelved, all_parts}
@@ -32,9 +33,9 @@ or_true true = refl
 or_true false = refl
 
 -- a seat that finds its own lane empty, and few numbers drawn, may draw
-pub may_draw : (v : View) (k drawn : ℕ) → v.draws.flight ≡ 0 → k ≡ v.place.number → drawn < 2 ^ 62 → MayDraw (with_drawn drawn (with_lane k 0 v)).draws
+pub may_draw : (v : View) (k drawn : ℕ) → v.draws.flight ≡ 0 → k ≡ v.place.number → drawn < MOST_NUMBERS → MayDraw (with_drawn drawn (with_lane k 0 v)).draws
 may_draw v k drawn landed own few = record {
-  cleared = lt-ltb drawn (2 ^ 62) few;
+  cleared = lt-ltb drawn MOST_NUMBERS few;
   empty = ap (λ b. v.draws.empty || (b && true)) (eq-eqb k v.place.number own) ∙ or_true v.draws.empty;
   landed = landed;
 }

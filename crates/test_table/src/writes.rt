@@ -7,11 +7,10 @@ ghost use Rattle.test_table.specs.Stubs.{stub_meaning};
 use crate::stub::{Stub, loose};
 use crate::sweeps::sweep;
 use fd_kinds::Held;
+use fd_kinds::limits::MOST_NUMBERS;
 use fd_rule::{Seat, draw, land, load_drawn, load_lane};
 use std::sync::Wait;
 use std::thread;
-
-const MOST_NUMBERS: u64 = 1 << 62;
 
 /// Whether the seat may draw: its lane is empty, and few numbers were drawn.
 pub(crate) fn is_ready(seat: &mut Seat<Stub>) -> bool

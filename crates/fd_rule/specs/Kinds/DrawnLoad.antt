@@ -1,14 +1,15 @@
--- Load of the greatest number drawn: where it is below 2^62, the seat is cleared to draw.
-use Rattle.std.specs.Prelude.{◌≡◌, ℕ, ◌+◌, ◌^◌, [], ◌∷◌, ◌++◌}
+-- Load of the greatest number drawn: where it is below `MOST_NUMBERS`, the seat is cleared to draw.
+use Rattle.std.specs.Prelude.{◌≡◌, ℕ, ◌+◌, [], ◌∷◌, ◌++◌}
 use Rattle.std.proofs.Math.Dec.{ltb}
 use Rattle.atomic_table.specs.Table.{Step}
+use Rattle.fd_kinds.specs.declared.limits.TheConstants.{MOST_NUMBERS}
 use Rattle.fd_rule.specs.Lists.{AllUpto, Tops}
 use Rattle.fd_rule.specs.Tables.{TableState, Seated, Sits, after, word}
 use Rattle.fd_rule.specs.View.{View}
 use Rattle.fd_rule.specs.declared.slot.SlotValue.{SlotValue}
 
 abbrev pub with_drawn : ℕ → View → View
-with_drawn n v = record v { seen = record v.seen { drawns = v.seen.drawns ++ n ∷ [] }; draws = record v.draws { cleared = ltb n (2 ^ 62) } }
+with_drawn n v = record v { seen = record v.seen { drawns = v.seen.drawns ++ n ∷ [] }; draws = record v.draws { cleared = ltb n MOST_NUMBERS } }
 
 -- No mark and no drawn number that the seat has loaded is above it, and none that it drew.
 pub record LoadedDrawn (drawn : ℕ) (v : View) : Type 0 where
