@@ -1,6 +1,5 @@
-ghost use Rattle.std.specs.Prelude.{◌≡◌, []};
 ghost use Rattle.fd_rule.specs.Kinds.TurnTry.{HasTried};
-ghost use Rattle.fd_rule.specs.Seats.{IsSameSeat, seat_slots, seat_state};
+ghost use Rattle.fd_rule.specs.Seats.{IsSameSeat, seat_state};
 
 use crate::plays::TurnTry;
 use crate::seat::Seat;
@@ -11,7 +10,6 @@ use fd_shelf::book_laws;
 
 /// Takes the turn and the shelf with it, or answers who holds it. It takes no memory.
 pub fn take_turn<P: Held>(seat: &mut Seat<P>) -> Turn<P>
-    requires slots { seat_slots seat.old ≡ [] }
     ensures tried { HasTried (seat_state seat.old) (seat_state seat.new) result }
     ensures same { IsSameSeat seat.old seat.new }
 {
