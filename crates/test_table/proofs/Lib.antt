@@ -1,1 +1,3 @@
 pub mod SeatSteps
+pub mod Replacements
+pub mod PinnedParts

@@ -3,7 +3,9 @@
 #![tactic(auto)]
 
 mod endings;
+mod lists;
 mod pins;
+mod seals;
 mod seats;
 mod stub;
 mod sweeps;
@@ -13,7 +15,9 @@ mod threads;
 mod writes;
 
 pub use endings::end_both;
+pub use lists::list;
 pub use pins::{lift, limit, pin, report};
+pub use seals::seal;
 pub use seats::{Four, four_seats};
 pub use stub::{Stub, loose};
 pub use sweeps::sweep;

@@ -1,6 +1,7 @@
 ghost use Rattle.std.specs.Prelude.{◌≡◌, ◌≤◌, ◌<◌};
+ghost use Rattle.fd_rule.specs.Lists.{In};
 ghost use Rattle.fd_rule.specs.View.{idle, settled};
-ghost use Rattle.fd_rule.specs.Seats.{IsSameSeat, seat_count, seat_view};
+ghost use Rattle.fd_rule.specs.Seats.{IsSameSeat, seat_count, seat_state, seat_view};
 ghost use Rattle.test_table.specs.Seats.{AtRest};
 
 use crate::stub::Stub;
@@ -10,6 +11,7 @@ use fd_rule::{Seat, announce, arrive, load_mark, raise_floor, scan_pin, settle};
 pub fn pin(seat: &mut Seat<Stub>) -> u64
     requires idles { (seat_view seat.old).pinning.state ≡ idle }
     ensures pinned { (seat_view seat.new).pinning.state ≡ settled result }
+    ensures loaded { In result (seat_view seat.new).seen.marks }
     ensures same { IsSameSeat seat.old seat.new }
     ensures place { (seat_view seat.new).place ≡ (seat_view seat.old).place }
 {
@@ -21,6 +23,7 @@ pub fn pin(seat: &mut Seat<Stub>) -> u64
 
 /// The least of the mark and all pins.
 pub fn limit(seat: &mut Seat<Stub>) -> u64
+    ensures rest { AtRest (seat_state seat.old) → AtRest (seat_state seat.new) }
     ensures limit { (seat_view seat.new).pinning.limit ≡ result }
     ensures finished { (seat_view seat.new).pinning.next ≡ seat_count seat.old }
     ensures same { IsSameSeat seat.old seat.new }
@@ -37,6 +40,8 @@ pub fn limit(seat: &mut Seat<Stub>) -> u64
 
 /// Raises the floor to the limit.
 pub fn lift(seat: &mut Seat<Stub>) -> u64
+    ensures raised { result ≤ (seat_view seat.new).pinning.raised }
+    ensures rest { AtRest (seat_state seat.old) → AtRest (seat_state seat.new) }
     ensures same { IsSameSeat seat.old seat.new }
     ensures place { (seat_view seat.new).place ≡ (seat_view seat.old).place }
 {

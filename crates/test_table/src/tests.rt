@@ -1,6 +1,6 @@
 use crate::seats::{Four, four_seats};
 use crate::stub::Stub;
-use crate::{begin, end, end_both, lift, limit, pin, report, sweep, write_both, write_swept};
+use crate::{begin, end, end_both, limit, list, pin, report, seal, sweep, write_both, write_swept};
 use fd_kinds::Held;
 use fd_rule::{Base, Made, Seat, leave, load_synced, split};
 use fd_shelf::Shelf;
@@ -41,9 +41,12 @@ fn no_limit_passes_a_pin(rt: HostRuntime) -> Result<(), Fail> {
         mut late,
     } = four_seats(&base, first);
     assert_eq!(rt; write_swept(&mut late, 3), 3);
-    assert_eq!(rt; pin(&mut early), 3);
+    let w = pin(&mut early);
+    assert_eq!(rt; w, 3);
     assert_eq!(rt; write_swept(&mut late, 4), 7);
-    assert_eq!(rt; lift(&mut compactor), 3);
+    assert_eq!(rt; limit(&mut compactor), 3);
+    assert!(rt; seal(&mut compactor) == Some(3));
+    assert!(rt; list(&mut early, w) == Some(3));
     leave(&mut early);
     assert_eq!(rt; limit(&mut compactor), 7);
     assert_eq!(rt; report(&mut keeper), 7);
