@@ -12,3 +12,4 @@ pub mod RowOrder
 pub mod RowRoundtrips
 pub mod StackFrames
 pub mod TableLaws
+pub mod TextLaws

@@ -15,7 +15,7 @@ use Rattle.fd_column.proofs.StackLaws.{frames_of_stack}
 use Rattle.fd_pages.specs.declared.cell.Cell.{Cell}
 use Rattle.fd_pages.specs.Columns.{Fits}
 use Rattle.fd_footer.specs.declared.footer.Column.{Column as FileColumn}
-use Rattle.fd_table_file.specs.Columns.{file_cell, file_column, cells_of}
+use Rattle.fd_table_file.specs.Columns.{file_cell, file_column, cells_of, IsStack}
 use Rattle.fd_parquet.specs.Stages.{HasCells}
 use Rattle.fd_parquet.specs.Rows.{cell_in, cell_number, cell_bytes, pair_of, pairs_in, row_in}
 
@@ -89,6 +89,10 @@ short_frames [] few = All-nil (λ (frame : List ℕ). length frame < 2 ^ 32)
 short_frames (frame ∷ frames) few =
     let len : length (stack_bytes (frame ∷ frames)) ≡ length (frame_bytes frame) + length (stack_bytes frames) = length-append (frame_bytes frame) (stack_bytes frames) in
     All-cons (λ (frame : List ℕ). length frame < 2 ^ 32) frame frames (omega (arith, len, few)) (short_frames frames (omega (arith, len, few)))
+
+-- the frames that the bytes of a stack spell
+pub frames_back : (bytes : List ℕ) (s : IsStack bytes) → frames_of bytes ≡ s.frames
+frames_back bytes s = ap frames_of s.spelled ∙ frames_of_stack s.frames s.short
 
 pub all_there : {X : Type 0} (P : X → Type 0) (xs : List X) (k : ℕ) (x : X) → All P xs → slice_get xs k ≡ Some x → P x
 all_there P [] k x all is = cc

@@ -1,6 +1,6 @@
 -- The rows that cells tell, column by column.
-use Rattle.std.specs.Prelude.{◌≡◌, ℕ, ℤ, pos, ◌==◌, if◌then◌else◌, false, List, [], ◌∷◌, Option, Some, None, slice_get, unwrap_or, codes}
-use Rattle.std.specs.List.{cons_option}
+use Rattle.std.specs.Prelude.{◌≡◌, ℕ, ℤ, pos, ◌==◌, if◌then◌else◌, true, false, nat_lt, List, [], ◌∷◌, Option, Some, None, slice_get, unwrap_or, codes}
+use Rattle.std.specs.List.{cons_option, list_all}
 use Rattle.std.specs.Ordering.{is_lt}
 use Rattle.fd_kinds.specs.declared.pair.Pair.{Pair}
 use Rattle.fd_kinds.specs.declared.labels.Labels.{Labels}
@@ -40,6 +40,11 @@ abbrev pub behind : List ℕ → List ℕ → Option (List ℕ)
 behind [] name = Some name
 behind (p ∷ prefix) [] = None
 behind (p ∷ prefix) (b ∷ name) = if p == b then behind prefix name else None
+
+-- Such prefixes stand before the names of labels: they are ASCII, and the column of stacks has none of them.
+pub record NamesLabels (prefix : List ℕ) : Type 0 where
+  pub ascii : list_all (λ b. nat_lt b 128) prefix ≡ true
+  pub other : behind prefix (codes "stack") ≡ None
 
 -- a label's name and its value, where both are there
 abbrev pub pair_of : Option (List ℕ) → Option (List ℕ) → Option Pair

@@ -1,12 +1,14 @@
-ghost use Rattle.std.specs.Prelude.{◌≡◌, ◌++◌, [], IfOk};
+ghost use Rattle.std.specs.Prelude.{◌≡◌, ◌++◌, [], IfOk, IfSome, IsUtf8};
 ghost use Rattle.std.specs.Option.{option_copied};
 ghost use Rattle.std.specs.List.{cons_option};
 ghost use Rattle.fd_column.specs.LabelColumns.{labels_from};
 ghost use Rattle.fd_parquet.specs.Rows.{behind as behind_prefix, pair_of, pairs_in, labels_in};
+ghost use Rattle.fd_parquet.specs.Rows.{NamesLabels};
+ghost use Rattle.fd_parquet.specs.Stages.{HaveTexts};
 
 use crate::frame::behind;
 use crate::rows::bytes_at;
-use crate::texts::text_of;
+use fd_column::text_of;
 use fd_footer::Column;
 use fd_kinds::{Items, Labels, NoMemory, Pair, Pairs, Shared};
 use fd_pages::CellList;
@@ -14,9 +16,11 @@ use std::alloc::Global;
 
 /// What follows a prefix in the name of a column.
 fn name_behind<'a>(prefix: &[u8], column: &'a Column) -> Option<&'a [u8]>
-    ensures { option_copied result ≡ behind_prefix prefix.now column.now.name }
+    requires { NamesLabels prefix.now }
+    ensures name { option_copied result ≡ behind_prefix prefix.now column.now.name }
+    ensures utf8 { IfSome result (λ name. IsUtf8 name.now) }
 {
-    behind(column.name.as_bytes(), prefix)
+    behind(column.name.as_str().as_bytes(), prefix)
 }
 
 /// The pairs and one more, where a name and a value are there.
@@ -26,6 +30,8 @@ fn with_pair(
     name: Option<&[u8]>,
     value: Option<&[u8]>,
 ) -> Result<Pairs, NoMemory>
+    requires names { IfSome name (λ name. IsUtf8 name.now) }
+    requires values { IfSome name (λ _. IfSome value (λ value. IsUtf8 value.now)) }
     ensures { IfOk result
         (λ more. more ≡ pairs
         ++ cons_option (pair_of (option_copied name.entry) (option_copied value.entry)) []) }
@@ -50,6 +56,8 @@ fn pairs_at(
     cells: &[CellList],
     at: usize,
 ) -> Result<Pairs, NoMemory>
+    requires labels { NamesLabels prefix.now }
+    requires texts { HaveTexts columns.now cells.now }
     ensures { IfOk result (λ pairs. pairs ≡ pairs_in prefix.now columns.now cells.now at) }
 {
     let mut pairs = Items::new(alloc);
@@ -82,6 +90,8 @@ pub(crate) fn labels_at(
     cells: &[CellList],
     at: usize,
 ) -> Result<Labels, NoMemory>
+    requires labels { NamesLabels prefix.now }
+    requires texts { HaveTexts columns.now cells.now }
     ensures { IfOk result (λ labels. labels ≡ labels_in prefix.now columns.now cells.now at) }
 {
     labels_of(pairs_at(alloc, columns, prefix, cells, at)?)

@@ -17,7 +17,6 @@ mod pages;
 mod reader;
 mod row_builder;
 mod rows;
-mod texts;
 
 pub use fault::FileFault;
 pub use fd_file_writer::write_file;

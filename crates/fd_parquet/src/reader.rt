@@ -1,4 +1,4 @@
-ghost use Rattle.std.specs.Prelude.{◌≡◌, ◌≢◌, ◌≤◌, ◌<◌, ◌+◌, ◌^◌, ℕ, pos, List, Some, None, Ok, Err, true, false, IfOk, IfErr, IfSome, All, Decides, length, map, option_map, true};
+ghost use Rattle.std.specs.Prelude.{◌≡◌, ◌≢◌, ◌≤◌, ◌<◌, ◌+◌, ◌^◌, ℕ, pos, List, Some, None, Ok, Err, true, false, IfOk, IfErr, IfSome, All, Decides, length, map, option_map};
 ghost use Rattle.fd_kinds.specs.declared.row.Numbered.{Numbered};
 ghost use Rattle.fd_column.specs.Cells.{columns_of};
 ghost use Rattle.fd_footer.specs.Footers.{IsPlaced};
@@ -9,6 +9,7 @@ ghost use Rattle.fd_footer.specs.declared.footer.Pages.{Pages as AnyPages};
 ghost use Rattle.fd_footer.specs.declared.footer.Pages.TheVariants.{Plain};
 ghost use Rattle.fd_footer.specs.declared.table.FooterTable.{FooterTable as AnyTable};
 ghost use Rattle.fd_footer.specs.Contents.{have_text_names};
+ghost use Rattle.fd_footer.specs.Layout.{are_own};
 ghost use Rattle.fd_table_file.specs.Columns.{file_column};
 ghost use Rattle.fd_parquet.specs.Refusals.{Refuses, IsRefused, Finds};
 ghost use Rattle.fd_parquet.specs.Stages.{HasTable, FitsTable, TellsOf, told_of, IsRead, IsFooterOf, AreParts, RefusesParts, IsPartsFault, IsFooterFault, TellsOrRefuses};
@@ -65,6 +66,7 @@ fn told_by(alloc: Global, footer: &[u8]) -> Result<FooterTable, FileFault>
     requires { length footer.now < 2 ^ 32 }
     ensures told { IfOk result (λ told. (v : Value) × TellsOf footer.now v told) }
     ensures few { IfOk result (λ told. length told.columns < 2 ^ 31) }
+    ensures own { IfOk result (λ told. are_own told.columns ≡ true) }
     ensures refused { IfErr result (IsFooterFault footer.now) }
     ensures only { (v : Value) → Spells footer.now v → TellsOrRefuses v result }
 {
@@ -189,6 +191,7 @@ fn table_of(
     requires told { (v : Value) × TellsOf footer.now v told.now }
     requires short { length footer.now < 2 ^ 32 }
     requires few { length told.now.columns < 2 ^ 31 }
+    requires own { are_own told.now.columns ≡ true }
     requires read { IsRead told.now count read.cells read.places }
     // A table has these cells, the range and the footer.
     ensures found { IfOk result
@@ -234,6 +237,7 @@ fn file_of(
     requires told { (v : Value) × TellsOf footer.now v told.now }
     requires short { length footer.now < 2 ^ 32 }
     requires few { length told.now.columns < 2 ^ 31 }
+    requires own { are_own told.now.columns ≡ true }
     requires within { 4 + length body.now < 2 ^ 63 }
     ensures found { IfOk result
         (λ file. AreParts Plain body.now footer.now file.table file.lo file.hi) }

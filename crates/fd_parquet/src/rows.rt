@@ -1,6 +1,7 @@
-ghost use Rattle.std.specs.Prelude.{◌≡◌, ◌<◌, ◌≤◌, ◌^◌, ◌++◌, ◌∷◌, [], ℕ, pos, List, Some, None, IfOk, IfSome, All, Decides, IsSorted, length, slice_get, ◌-◌};
+ghost use Rattle.std.specs.Prelude.{◌≡◌, ◌<◌, ◌≤◌, ◌^◌, ◌++◌, ◌∷◌, [], ℕ, pos, List, Some, None, true, IfOk, IfSome, All, IsUtf8, Decides, IsSorted, length, slice_get, ◌-◌};
 ghost use Rattle.std.specs.Option.{option_copied};
 ghost use Rattle.fd_kinds.specs.declared.row.Numbered.{Numbered as AnyRow};
+ghost use Rattle.fd_footer.specs.Layout.{are_own};
 ghost use Rattle.fd_table_file.specs.Files.{IsWithin};
 ghost use Rattle.fd_parquet.specs.Stages.{AreRows, HaveTexts, BuildsRows};
 ghost use Rattle.fd_parquet.specs.Rows.{cell_in, cell_number, cell_bytes, text_in, row_in, MayFollow};
@@ -9,8 +10,7 @@ ghost use Rattle.fd_column.specs.Stacks.{AreShort, frames_of};
 
 use crate::labels::labels_at;
 use crate::row_builder::RowBuilder;
-use crate::texts::{stack_of, text_of};
-use fd_column::ColumnPart;
+use fd_column::{ColumnPart, read_stack, text_of};
 use fd_footer::Column;
 use fd_kinds::{NoMemory, Numbered, Row, Stack, Text};
 use fd_pages::{Cell, CellList};
@@ -45,6 +45,7 @@ pub(crate) fn bytes_at(cells: &[CellList], column: usize, at: usize) -> Option<&
 
 /// The text of a cell, which is empty where it has none.
 fn text_at(alloc: Global, cells: &[CellList], column: usize, at: usize) -> Result<Text, NoMemory>
+    requires { IsUtf8 (text_in cells.now column at) }
     ensures { IfOk result (λ text. text ≡ text_in cells.now column at) }
 {
     match bytes_at(cells, column, at) {
@@ -53,8 +54,21 @@ fn text_at(alloc: Global, cells: &[CellList], column: usize, at: usize) -> Resul
     }
 }
 
+/// The stack of the bytes of a stack.
+fn stack_of(alloc: Global, bytes: &[u8]) -> Result<Stack, NoMemory>
+    requires { All IsUtf8 (frames_of bytes.now) }
+    ensures frames { IfOk result (λ stack. stack ≡ frames_of bytes.now) }
+    ensures short { IfOk result AreShort }
+{
+    match read_stack(alloc, bytes)? {
+        Some(stack) => Ok(stack),
+        None => unreachable!(),
+    }
+}
+
 /// The stack of a row.
 fn stack_at(alloc: Global, cells: &[CellList], column: usize, at: usize) -> Result<Stack, NoMemory>
+    requires { All IsUtf8 (frames_of (text_in cells.now column at)) }
     ensures frames { IfOk result (λ stack. stack ≡ frames_of (text_in cells.now column at)) }
     ensures short { IfOk result AreShort }
 {
@@ -66,6 +80,8 @@ fn stack_at(alloc: Global, cells: &[CellList], column: usize, at: usize) -> Resu
 
 /// The row at a place.
 fn row_at(alloc: Global, columns: &[Column], cells: &[CellList], at: usize) -> Result<Row, NoMemory>
+    requires own { are_own columns.now ≡ true }
+    requires texts { HaveTexts columns.now cells.now }
     ensures row { IfOk result (λ row. row ≡ row_in columns.now cells.now at) }
     ensures short { IfOk result (λ row. AreShort row.stack) }
 {
@@ -110,6 +126,8 @@ fn numbered_at(
     lo: u64,
     hi: u64,
 ) -> Result<Option<Numbered>, NoMemory>
+    requires own { are_own columns.now ≡ true }
+    requires texts { HaveTexts columns.now cells.now }
     ensures number { IfOk result
         (λ next. IfSome next (λ n. cell_number (cell_in cells.now 0 at) ≡ pos n.number)) }
     ensures within { IfOk result (λ next. IfSome next (IsWithin lo hi)) }
@@ -137,6 +155,7 @@ fn rows_in(
     hi: u64,
 ) -> Result<Option<RowBuilder>, NoMemory>
     requires below { hi < 2 ^ 63 }
+    requires own { are_own columns.now ≡ true }
     requires texts { HaveTexts columns.now cells.now }
     ensures found { IfOk result
         (λ rows. IfSome rows (BuildsRows columns.now cells.now lo hi count)) }
@@ -169,6 +188,7 @@ pub(crate) fn part_of(
     hi: u64,
 ) -> Result<Option<ColumnPart>, NoMemory>
     requires below { hi < 2 ^ 63 }
+    requires own { are_own columns.now ≡ true }
     requires texts { HaveTexts columns.now cells.now }
     ensures within { IfOk result (λ part. IfSome part (All (IsWithin lo hi))) }
     ensures sorted { IfOk result (λ part. IfSome part (IsSorted numbered_cmp)) }

@@ -4,8 +4,8 @@ ghost use Rattle.fd_footer.specs.Footers.{IsWritable};
 use fd_footer::{
     Chunk, Column, ColumnType, Footer, FooterFault, FooterTable, Pages, read_footer, write_footer,
 };
-use fd_kinds::{Items, Text};
-use std::alloc::{AllocError, Global};
+use fd_kinds::{Items, NoMemory, Text};
+use std::alloc::Global;
 use std::test::Fail;
 
 /// Three rows of a required column `a` of numbers and an optional column `b` of texts.
@@ -65,7 +65,7 @@ const OWN: [u8; 262] = [
 
 /// A footer of three rows, whose texts have their first data page at this place.
 #[tactic(auto, using(crate::proofs::Places::both_placed))]
-fn three_rows(alloc: Global, pages: Pages, data_page: u64) -> Result<Footer, AllocError>
+fn three_rows(alloc: Global, pages: Pages, data_page: u64) -> Result<Footer, NoMemory>
     requires { data_page < 2 ^ 63 }
     ensures { IfOk result (λ f. IsWritable f) }
 {
@@ -105,7 +105,7 @@ fn is_written(
     pages: Pages,
     data_page: u64,
     expected: &[u8],
-) -> Result<bool, AllocError>
+) -> Result<bool, NoMemory>
     requires { data_page < 2 ^ 63 }
 {
     let footer = three_rows(alloc, pages, data_page)?;

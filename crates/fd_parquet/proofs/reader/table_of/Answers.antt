@@ -1,7 +1,8 @@
-use Rattle.std.proofs.Common.{◌≡◌, ◌≤◌, ◌<◌, ◌^◌, ℕ, List, length, Some, sym, ap, ◌∙◌, subst, arith}
+use Rattle.std.proofs.Common.{◌≡◌, ◌≤◌, ◌<◌, ◌^◌, ℕ, List, true, length, Some, sym, ap, ◌∙◌, subst, arith}
 use Rattle.std.specs.Prelude.{IfOk, IfSome, All, IsSorted, option_map}
 use Rattle.fd_kinds.specs.declared.row.Numbered.{Numbered}
 use Rattle.fd_column.specs.RowNumbers.{numbered_cmp}
+use Rattle.fd_footer.specs.Layout.{are_own}
 use Rattle.fd_table_file.specs.Files.{IsWithin}
 use Rattle.fd_parquet.specs.Stages.{HaveTexts, FitsTable, HasTable, AreRows}
 use Rattle.fd_parquet.proofs.Injectivity.{some_is}
@@ -14,6 +15,9 @@ part_of-requires-clause-texts c =
     subst (λ xs. HaveTexts c.as_slice-columns.result.now xs) (sym c.as_slice.ensures)
     (subst (λ xs. HaveTexts xs c.args.read.cells) (sym c.as_slice-columns.ensures)
     (have_texts c.cells_fit.ensures c.args.told.now c.args.count c.args.read.cells c.args.read.places c.requires.read))
+
+pub part_of-requires-clause-own : goal.part_of-requires-clause-own
+part_of-requires-clause-own c = subst (λ xs. are_own xs ≡ true) (sym c.as_slice-columns.ensures) c.requires.own
 
 pub fits_table-fits-requires-clause-few : goal.fits_table-fits-requires-clause-few
 fits_table-fits-requires-clause-few c =
