@@ -1,9 +1,10 @@
 -- The bytes that were given so far, and what they hold.
-use Rattle.std.proofs.Common.{ℕ, ◌≡◌, ◌≤◌, ◌<◌, List, [], ◌∷◌, ◌++◌, length, take, drop, arith, ap, sym, subst, ◌∙◌, refl, Option, Result, Ok, Err, IsTrue, IsFalse, IfSome, Some, inl, inr, append_assoc, length-append, length-take}
+use Rattle.std.proofs.Common.{ℕ, ◌≡◌, ◌≤◌, ◌<◌, List, [], ◌∷◌, ◌++◌, length, take, drop, arith, ap, sym, subst, ◌∙◌, refl, Option, Result, Ok, Err, IsTrue, IsFalse, IfSome, Some, ◌⊎◌, inl, inr, append_assoc, length-append, length-take}
 use Rattle.std.specs.Io.KnownBytes.{Consumes, Keeps}
 use Rattle.std.proofs.KnownBytes.{Consumes-nil, Consumes-trans, Consumes-kept}
 use Rattle.std.proofs.lemmas.List.{append-nil, take-append-drop, take_all}
 use Rattle.httparse.specs.Grammar.{RequestHead}
+use Rattle.fd_http.specs.declared.limits.TheConstants.{LONGEST_FRONT, LONGEST_PIECE}
 use Rattle.fd_http.specs.declared.headers.Length.{Length}
 use Rattle.fd_http.specs.declared.head.Head.{Head}
 use Rattle.fd_http.specs.declared.request.Request.{Request}
@@ -14,7 +15,7 @@ use Rattle.fd_http.specs.Front.{IsFront, HasNoFront, is_blank_ended}
 use Rattle.fd_http.specs.Heads.{IsHead, head_of, body_len, sized}
 use Rattle.fd_http.specs.Inputs.{Headed, Begins, CutInFront, HasRequestFault, request_of}
 use Rattle.fd_http.specs.Intake.{FrontAt}
-use Rattle.fd_http.specs.Remainders.{Given}
+use Rattle.fd_http.specs.Remainders.{Given, Paced}
 use Rattle.fd_http.proofs.InputLemmas.{begins_in, cut_in, sized_fault}
 use Rattle.fd_http.proofs.SplitLemmas.{front_is, headed_unique, no_front_there}
 
@@ -40,18 +41,43 @@ given_kept old mid new a P Q given kept f = record {
   holds = f (a ++ given.bytes) given.holds;
 }
 
+-- nothing was read
+pub paced_none : (o : Option (List ℕ)) (a : List ℕ) (Is : List ℕ → Type 0) → Paced o o a Is
+paced_none o a Is = record { before = []; piece = []; consumed = Consumes-nil o; small = omega arith; holds = inl refl }
+
+-- a piece was read
+pub paced_more : (old mid new : Option (List ℕ)) (a piece : List ℕ) (P Is : List ℕ → Type 0) → Given old mid a P → Consumes mid new piece
+    → length piece ≤ LONGEST_PIECE → ((xs : List ℕ) → P xs → Is xs) → Paced old new a Is
+paced_more old mid new a piece P Is given took small f = record {
+  before = given.bytes;
+  piece = piece;
+  consumed = Consumes-trans old mid new given.bytes piece given.consumed took;
+  small = small;
+  holds = inr (f (a ++ given.bytes) given.holds);
+}
+
+-- the source failed
+pub paced_kept : (old mid new : Option (List ℕ)) (a : List ℕ) (Is : List ℕ → Type 0) → Paced old mid a Is → Keeps mid new → Paced old new a Is
+paced_kept old mid new a Is paced kept = record {
+  before = paced.before;
+  piece = paced.piece;
+  consumed = Consumes-kept old mid new (paced.before ++ paced.piece) paced.consumed kept;
+  small = paced.small;
+  holds = paced.holds;
+}
+
 -- bytes without a front are none, or less than a request
-pub unfinished_front : (inbox given : List ℕ) → length inbox < 16384 → HasNoFront (take 16384 inbox) → given ≡ inbox → IsUnfinished given
+pub unfinished_front : (inbox given : List ℕ) → length inbox < LONGEST_FRONT → HasNoFront (take LONGEST_FRONT inbox) → given ≡ inbox → IsUnfinished given
 unfinished_front [] given few none is = inl is
 unfinished_front (x ∷ xs) given few none is =
     let some : 0 < length (x ∷ xs) = omega arith in
-    let cut : CutInFront (x ∷ xs) = record { some = some; few = few; none = subst HasNoFront (take_all 16384 (x ∷ xs) (omega (arith, few))) none } in
+    let cut : CutInFront (x ∷ xs) = record { some = some; few = few; none = subst HasNoFront (take_all LONGEST_FRONT (x ∷ xs) (omega (arith, few))) none } in
     inr (inl (subst CutInFront (sym is) cut))
 
 -- where a front stands, it is found
-pub no_front_in : (inbox a : List ℕ) (n : ℕ) → FrontAt a n → inbox ≡ a → HasNoFront (take 16384 inbox) → ⊥
+pub no_front_in : (inbox a : List ℕ) (n : ℕ) → FrontAt a n → inbox ≡ a → HasNoFront (take LONGEST_FRONT inbox) → ⊥
 no_front_in inbox a n at is none =
-    let L : List ℕ → Type 0 = λ xs. HasNoFront (take 16384 xs) in
+    let L : List ℕ → Type 0 = λ xs. HasNoFront (take LONGEST_FRONT xs) in
     no_front_there a (take n a) (drop n a) (record { is_front = at.front; short = omega (arith, at.short, length-take n a) }) (subst L is none)
 
 -- the front of a whole request stands in the bytes
@@ -118,6 +144,39 @@ given_cut old mid new a b n head size ReadFault first at is sized second =
     let cut : HasRequestFault (b ++ second.bytes) Cut = cut_in b second.bytes n is.0 size at is.1 sized_h second.holds in
     let C : List ℕ → Type 0 = λ xs. HasRequestFault (xs ++ second.bytes) Cut in
     given_more old mid new a second.bytes (λ given. given ≡ b) IsUnfinished first second.consumed (λ xs same. inr (subst C (sym same) cut))
+
+-- a body was read behind a front
+pub paced_body : (old mid new : Option (List ℕ)) (a b skipped : List ℕ) (n : ℕ) (head : Head) (size : ℕ) → Given old mid a (λ given. given ≡ b) → Paced old mid a IsUnfinished
+    → FrontAt b n → (h : RequestHead) × IsHead (take n b) h × (head ≡ head_of h) → body_len head ≡ Ok size → skipped ≡ drop n b
+    → Paced mid new skipped (λ given. length given < size) → Paced old new a IsUnfinished
+paced_body old mid new a b skipped n head size first paced at is sized skip second = by second.holds
+  where
+    by : (second.before ++ second.piece ≡ []) ⊎ (length (skipped ++ second.before) < size) → Paced old new a IsUnfinished
+    by (inl nothing) =
+        let none : Consumes mid new [] = subst (Consumes mid new) nothing second.consumed in
+        let same : (paced.before ++ paced.piece) ++ [] ≡ paced.before ++ paced.piece = append-nil (paced.before ++ paced.piece) in
+        record {
+          before = paced.before;
+          piece = paced.piece;
+          consumed = subst (Consumes old new) same (Consumes-trans old mid new (paced.before ++ paced.piece) [] paced.consumed none);
+          small = paced.small;
+          holds = paced.holds;
+        }
+    by (inr short) =
+        let sized_h : body_len (head_of is.0) ≡ Ok size = ap body_len (sym is.2) ∙ sized in
+        let few : length (drop n b ++ second.before) < size = subst (λ (xs : List ℕ). length (xs ++ second.before) < size) skip short in
+        let cut : HasRequestFault (b ++ second.before) Cut = cut_in b second.before n is.0 size at is.1 sized_h few in
+        let all : a ++ (first.bytes ++ second.before) ≡ b ++ second.before =
+        sym (append_assoc a first.bytes second.before) ∙ ap (λ (xs : List ℕ). xs ++ second.before) first.holds in
+        let C : List ℕ → Type 0 = λ xs. HasRequestFault xs Cut in
+        let B : List ℕ → Type 0 = Consumes old new in
+        record {
+          before = first.bytes ++ second.before;
+          piece = second.piece;
+          consumed = subst B (sym (append_assoc first.bytes second.before second.piece)) (Consumes-trans old mid new first.bytes (second.before ++ second.piece) first.consumed second.consumed);
+          small = second.small;
+          holds = inr (inr (subst C (sym all) cut));
+        }
 
 -- what a head says is no fault of the source
 pub no_read_fault : (l : Length) (head : Head) (e : RequestFault) (P : Type 0) → sized l head ≡ Err e → AtReadFault e P

@@ -3,6 +3,7 @@ use Rattle.std.proofs.Common.{ℕ, ◌≡◌, ◌≤◌, ◌<◌, List, [], ◌+
 use Rattle.std.specs.Io.KnownBytes.{Consumes, IsAtEnd}
 use Rattle.std.proofs.lemmas.List.{take-append-drop, take_at, drop_at, take-append-le, take_all, append-nil}
 use Rattle.httparse.specs.Grammar.{RequestHead}
+use Rattle.fd_http.specs.declared.limits.TheConstants.{LONGEST_FRONT, LONGEST_BODY}
 use Rattle.fd_http.specs.declared.headers.Length.{Length}
 use Rattle.fd_http.specs.declared.headers.Length.TheVariants.{Absent, Wrong, Of}
 use Rattle.fd_http.specs.declared.head.Head.{Head}
@@ -27,21 +28,21 @@ told_step (Some x) (Some y) None a b b1 b2 P Q same told f = told
 told_step (Some x) (Some y) (Some z) a b b1 b2 P Q same told f =
     let R : List ℕ → Type 0 = λ rest. Q rest (b2 ++ z) in subst R (sym same) (f y z told)
 
-pub long_front : (b y : List ℕ) → 16384 ≤ length b → HasNoFront (take 16384 b) → LongFront (b ++ y)
+pub long_front : (b y : List ℕ) → LONGEST_FRONT ≤ length b → HasNoFront (take LONGEST_FRONT b) → LongFront (b ++ y)
 long_front b y many none = record {
   many = omega (arith, length-append b y);
-  none = subst HasNoFront (sym (take-append-le 16384 b y many)) none;
+  none = subst HasNoFront (sym (take-append-le LONGEST_FRONT b y many)) none;
 }
 
 -- the input ends inside a front
 pub cut_front : (old mid new : Option (List ℕ)) (a inbox bs : List ℕ) → IfTold old mid a inbox (λ rest after. rest ≡ after) → Consumes mid new bs → IsAtEnd new
-    → bs ≡ [] → 0 < length inbox → length inbox < 16384 → HasNoFront (take 16384 inbox) → IfTold old new a inbox (λ rest after. CutInFront rest)
+    → bs ≡ [] → 0 < length inbox → length inbox < LONGEST_FRONT → HasNoFront (take LONGEST_FRONT inbox) → IfTold old new a inbox (λ rest after. CutInFront rest)
 cut_front None mid new a inbox bs same took end none some few unfronted = tt
 cut_front (Some x) None new a inbox bs same took end none some few unfronted = absurd same
 cut_front (Some x) (Some y) None a inbox bs same took end none some few unfronted = took
 cut_front (Some x) (Some y) (Some z) a inbox bs same took end none some few unfronted =
     let all : a ++ x ≡ inbox = same ∙ ap (λ (xs : List ℕ). inbox ++ xs) (took ∙ ap (λ (xs : List ℕ). xs ++ z) none ∙ end) ∙ append-nil inbox in
-    subst CutInFront (sym all) (record { some = some; few = few; none = subst HasNoFront (take_all 16384 inbox (omega (arith, few))) unfronted })
+    subst CutInFront (sym all) (record { some = some; few = few; none = subst HasNoFront (take_all LONGEST_FRONT inbox (omega (arith, few))) unfronted })
 
 -- what was read joins the inbox
 pub read_more : (old mid new : Option (List ℕ)) (a inbox bs : List ℕ) → IfTold old mid a inbox (λ rest after. rest ≡ after) → Consumes mid new bs
@@ -87,7 +88,7 @@ known_fault false false n e is = let never : ⊥ = cc in absurd never
 pub sized_fault : (l : Length) (head : Head) (e : RequestFault) → sized l head ≡ Err e → (e ≡ BadHead) ⊎ ((e ≡ NoLength) ⊎ (e ≡ TooLarge))
 sized_fault Wrong head e is = let same : e ≡ BadHead = cc in inl same
 sized_fault Absent head e is = inr (inl (absent_fault (head.transfer_encoded || bytes_eq head.method (codes "POST")) e is))
-sized_fault (Of n) head e is = inr (known_fault head.transfer_encoded (nat_lt 16777216 n) n e is)
+sized_fault (Of n) head e is = inr (known_fault head.transfer_encoded (nat_lt LONGEST_BODY n) n e is)
 
 pub refused_by_head : (l : Length) (head : Head) (e : RequestFault) (rest : List ℕ) → sized l head ≡ Err e → HeadRefused rest e → HasRequestFault rest e
 refused_by_head l head BadHead rest is refused = inr (inr refused)

@@ -6,6 +6,7 @@ use Rattle.std.proofs.lemmas.Bool.{cases_lt, le-leb}
 use Rattle.std.proofs.lemmas.Bool.Decides.{nat_tests}
 use Rattle.httparse.specs.Grammar.{RequestHead}
 use Rattle.httparse.proofs.GrammarLemmas.{request_unique}
+use Rattle.fd_http.specs.declared.limits.TheConstants.{LONGEST_FRONT}
 use Rattle.fd_http.specs.declared.request.Request.{Request}
 use Rattle.fd_http.specs.declared.request.RequestFault.{RequestFault}
 use Rattle.fd_http.specs.declared.request.RequestFault.TheVariants.{BadHead, NoLength, TooLarge, Cut, ReadFault, NoMemory}
@@ -37,12 +38,12 @@ front_unique rest f m g n a b =
     let right : drop (length g) rest ≡ n = ap (drop (length g)) b.parts ∙ drop_at g n (length g) refl in
     (same, sym left ∙ ap (λ (k : ℕ). drop k rest) long ∙ right)
 
-pub no_front_there : (rest front more : List ℕ) → Fronted rest front more → HasNoFront (take 16384 rest) → ⊥
+pub no_front_there : (rest front more : List ℕ) → Fronted rest front more → HasNoFront (take LONGEST_FRONT rest) → ⊥
 no_front_there rest front more there none =
     let within : length front ≤ length rest = omega (arith, ap length there.is_front.parts, length-append front more) in
-    let no : is_blank_ended (take (length front) (take 16384 rest)) ≡ false = none (length front) (omega (arith, there.short, length-take 16384 rest)) in
-    let cut : take (length front) (take 16384 rest) ≡ front = take-take (length front) 16384 rest there.short ∙ front_is rest front more there.is_front.parts in
-    let same : is_blank_ended (take (length front) (take 16384 rest)) ≡ is_blank_ended front = ap is_blank_ended cut in
+    let no : is_blank_ended (take (length front) (take LONGEST_FRONT rest)) ≡ false = none (length front) (omega (arith, there.short, length-take LONGEST_FRONT rest)) in
+    let cut : take (length front) (take LONGEST_FRONT rest) ≡ front = take-take (length front) LONGEST_FRONT rest there.short ∙ front_is rest front more there.is_front.parts in
+    let same : is_blank_ended (take (length front) (take LONGEST_FRONT rest)) ≡ is_blank_ended front = ap is_blank_ended cut in
     let yes : is_blank_ended front ≡ true = there.is_front.ends in
     cc
 
@@ -61,7 +62,7 @@ no_front_of_nothing (b ∷ front) more there = let e = there.parts in cc
 -- how a rest is seen
 data Sight (rest : List ℕ) : Type 0 where
   empty : rest ≡ [] → Sight rest
-  unfronted : 0 < length rest → HasNoFront (take 16384 rest) → Sight rest
+  unfronted : 0 < length rest → HasNoFront (take LONGEST_FRONT rest) → Sight rest
   headless : NoHead rest → Sight rest
   headed : (h : RequestHead) (more : List ℕ) → Headed rest h more → Sight rest
 
@@ -71,7 +72,7 @@ by_size (Ok size) h more = if nat_le size (length more) then one (request_of (he
 
 abbrev out : (rest : List ℕ) → Sight rest → Next
 out rest (empty e) = nothing
-out rest (unfronted some none) = if nat_lt (length rest) 16384 then refused Cut else refused BadHead
+out rest (unfronted some none) = if nat_lt (length rest) LONGEST_FRONT then refused Cut else refused BadHead
 out rest (headless there) = refused BadHead
 out rest (headed h more there) = by_size (body_len (head_of h)) h more
 
@@ -115,14 +116,14 @@ cut_out h more size short =
     let no : nat_le size (length more) ≡ false = grind (arith, nat_tests) in
     rw no
 
-few_out : (rest : List ℕ) → length rest < 16384 → refused Cut ≡ (if nat_lt (length rest) 16384 then refused Cut else refused BadHead)
+few_out : (rest : List ℕ) → length rest < LONGEST_FRONT → refused Cut ≡ (if nat_lt (length rest) LONGEST_FRONT then refused Cut else refused BadHead)
 few_out rest few =
-    let yes : nat_lt (length rest) 16384 ≡ true = grind (arith, nat_tests) in
+    let yes : nat_lt (length rest) LONGEST_FRONT ≡ true = grind (arith, nat_tests) in
     rw yes
 
-many_out : (rest : List ℕ) → 16384 ≤ length rest → refused BadHead ≡ (if nat_lt (length rest) 16384 then refused Cut else refused BadHead)
+many_out : (rest : List ℕ) → LONGEST_FRONT ≤ length rest → refused BadHead ≡ (if nat_lt (length rest) LONGEST_FRONT then refused Cut else refused BadHead)
 many_out rest many =
-    let no : nat_lt (length rest) 16384 ≡ false = grind (arith, nat_tests) in
+    let no : nat_lt (length rest) LONGEST_FRONT ≡ false = grind (arith, nat_tests) in
     rw no
 
 sight_of : (rest : List ℕ) (n : Next) → Holds rest n → (s : Sight rest) × (n ≡ out rest s)
@@ -132,7 +133,7 @@ sight_of rest (one request after) begins = (
   one_out begins.h begins.more begins.size request after begins.whole begins.request_is begins.after_is
       ∙ ap (λ (r : Result ℕ RequestFault). by_size r begins.h begins.more) (sym begins.sized),
 )
-sight_of rest (refused Cut) (inl cut) = (unfronted cut.some (subst HasNoFront (sym (take_all 16384 rest (omega (arith, cut.few)))) cut.none), few_out rest cut.few)
+sight_of rest (refused Cut) (inl cut) = (unfronted cut.some (subst HasNoFront (sym (take_all LONGEST_FRONT rest (omega (arith, cut.few)))) cut.none), few_out rest cut.few)
 sight_of rest (refused Cut) (inr cut) = (
   headed cut.h cut.more cut.headed,
   cut_out cut.h cut.more cut.size cut.short ∙ ap (λ (r : Result ℕ RequestFault). by_size r cut.h cut.more) (sym cut.sized),

@@ -2,6 +2,7 @@
 -- and the split of an input into its requests and its end.
 use Rattle.std.specs.Prelude.{ℕ, ◌≡◌, ◌<◌, ◌≤◌, ◌⊎◌, List, [], ◌∷◌, length, take, drop, Ok, Err, ◌-◌, IsTrue, IsFalse}
 use Rattle.httparse.specs.Grammar.{RequestHead}
+use Rattle.fd_http.specs.declared.limits.TheConstants.{LONGEST_FRONT, MOST_REQUESTS}
 use Rattle.fd_http.specs.declared.head.Head.{Head}
 use Rattle.fd_http.specs.declared.request.Request.{Request}
 use Rattle.fd_http.specs.declared.request.RequestFault.{RequestFault}
@@ -9,10 +10,10 @@ use Rattle.fd_http.specs.declared.request.RequestFault.TheVariants.{BadHead, NoL
 use Rattle.fd_http.specs.Front.{IsFront, HasNoFront}
 use Rattle.fd_http.specs.Heads.{IsHead, IsNoHead, head_of, body_len}
 
--- a front of at most 16,384 bytes, and what follows it
+-- a front of at most so many bytes, and what follows it
 pub record Fronted (rest front more : List ℕ) : Type 0 where
   pub is_front : IsFront rest front more
-  pub short : length front ≤ 16384
+  pub short : length front ≤ LONGEST_FRONT
 
 -- such a front that is a head, and what follows it
 pub record Headed (rest : List ℕ) (h : RequestHead) (more : List ℕ) : Type 0 where
@@ -38,7 +39,7 @@ pub record Begins (rest : List ℕ) (request : Request) (after : List ℕ) : Typ
 -- it begins, and ends before the end of its front
 pub record CutInFront (rest : List ℕ) : Type 0 where
   pub some : 0 < length rest
-  pub few : length rest < 16384
+  pub few : length rest < LONGEST_FRONT
   pub none : HasNoFront rest
 
 -- it ends before the end of its body
@@ -50,10 +51,10 @@ pub record CutInBody (rest : List ℕ) : Type 0 where
   pub sized : body_len (head_of h) ≡ Ok size
   pub short : length more < size
 
--- it is long, and has no front of at most 16,384 bytes
+-- it is long, and has no front of at most so many bytes
 pub record LongFront (rest : List ℕ) : Type 0 where
-  pub many : 16384 ≤ length rest
-  pub none : HasNoFront (take 16384 rest)
+  pub many : LONGEST_FRONT ≤ length rest
+  pub none : HasNoFront (take LONGEST_FRONT rest)
 
 -- a front that is no head
 pub record NoHead (rest : List ℕ) : Type 0 where
@@ -106,6 +107,6 @@ SplitsWithin (request ∷ requests) room bytes end =
     (0 < room) × (after : List ℕ) × Begins bytes request after
     × ((IsTrue request.close × (requests ≡ []) × (end ≡ closed)) ⊎ (IsFalse request.close × SplitsWithin requests (room - 1) after end))
 
--- the same with the 100,000 requests of a session
+-- the same with as many requests as a session takes
 abbrev pub Splits : List ℕ → List Request → End → Type 0
-Splits bytes requests end = SplitsWithin requests 100000 bytes end
+Splits bytes requests end = SplitsWithin requests MOST_REQUESTS bytes end

@@ -1,5 +1,6 @@
 -- The steps of reading a request: its front, then its body.
 use Rattle.std.specs.Prelude.{ℕ, ◌≡◌, ◌<◌, ◌≤◌, List, [], ◌++◌, length, take, drop, Option, None, Some, Result, Ok, Err, ⊤}
+use Rattle.fd_http.specs.declared.limits.TheConstants.{LONGEST_FRONT}
 use Rattle.fd_http.specs.declared.request.RequestFault.{RequestFault}
 use Rattle.fd_http.specs.declared.request.RequestFault.TheVariants.{BadHead, NoLength, TooLarge, Cut, ReadFault, NoMemory}
 use Rattle.fd_http.specs.Front.{IsFront}
@@ -20,7 +21,7 @@ Fills old new a b (Err NoMemory) = ⊤
 -- a front of n bytes stands in the inbox
 pub record FrontAt (b : List ℕ) (n : ℕ) : Type 0 where
   pub within : n ≤ length b
-  pub short : n ≤ 16384
+  pub short : n ≤ LONGEST_FRONT
   pub front : IsFront b (take n b) (drop n b)
 
 -- the body that was read, of so many bytes

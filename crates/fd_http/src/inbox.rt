@@ -1,3 +1,4 @@
+ghost use Rattle.fd_http.specs.declared.limits.TheConstants.{LONGEST_INBOX};
 ghost use Rattle.std.specs.Prelude.{◌≡◌, [], ◌++◌, ◌+◌, ◌≤◌, length, drop, IsOk, IfOk, OnOk, OnErr};
 
 use fd_lists::NoMemory;
@@ -15,12 +16,14 @@ pub struct Inbox {
 
 impl Model for Inbox {
     ghost use Rattle.std.specs.Prelude.{List, ℕ, drop, length, ◌≤◌};
+    ghost use Rattle.fd_http.specs.declared.limits.TheConstants.{LONGEST_INBOX};
 
     ghost Value = { List ℕ };
 
     ghost view = { λ i. drop i.start i.bytes.items };
 
-    ghost invariant = { λ i. (i.start ≤ length i.bytes.items) × (length i.bytes.items ≤ 20479) };
+    ghost invariant = { λ i. (i.start ≤ length i.bytes.items)
+        × (length i.bytes.items ≤ LONGEST_INBOX) };
 }
 
 /// Moves all but the first bytes to the front.
@@ -54,9 +57,10 @@ impl Inbox {
     }
 
     /// Adds bytes that were read. What is used goes first, so that each byte moves at most once
-    /// before it is used, and the inbox never holds more than 20,479 bytes.
+    /// before it is used, and the inbox never holds more than a front that lacks a byte, and a
+    /// piece.
     pub(crate) fn extend(&mut self, piece: &[u8]) -> Result<(), NoMemory>
-        requires { length self.old + length piece.now ≤ 20479 }
+        requires { length self.old + length piece.now ≤ LONGEST_INBOX }
         ensures ok { OnOk result (self.new ≡ self.old ++ piece.now) }
         ensures err { OnErr result (self.new ≡ self.old) }
     {

@@ -1,5 +1,6 @@
 ghost use Rattle.std.specs.Prelude.{◌≡◌, ◌≤◌, ◌<◌, ◌++◌, ℕ, List, max, length, take, drop, IfOk, IfErr, IfSome, IfNone};
-ghost use Rattle.fd_http.specs.Remainders.{Given};
+ghost use Rattle.fd_http.specs.declared.limits.TheConstants.{LONGEST_FRONT, LONGEST_INBOX};
+ghost use Rattle.fd_http.specs.Remainders.{Given, Paced};
 ghost use Rattle.fd_http.specs.Inputs.{Begins};
 ghost use Rattle.fd_http.specs.declared.request.Request.{Request as Whole};
 ghost use Rattle.fd_http.specs.Arrivals.{Arrives, ReadCause, AtReadFault, IfOne, IsUnfinished};
@@ -9,22 +10,20 @@ ghost use Rattle.fd_http.specs.Intake.{Fills, FrontAt, ReadsBody};
 
 use crate::front::FrontSearch;
 use crate::head::{body_len, read_head};
+use crate::limits::{LONGEST_FRONT, LONGEST_PIECE};
 use crate::{Arrived, Inbox, Request, RequestFault};
 use fd_device::{Source, Taken};
 use fd_lists::Bytes;
 use std::alloc::Global;
 
-const LONGEST_FRONT: usize = 16_384;
-
-const PIECE: usize = 4_096;
-
 /// Looks for a front of at most so many bytes, and goes on where the search stands.
 fn find_front(search: &mut FrontSearch, bytes: &[u8]) -> Option<usize>
     requires searched { HasSearched bytes.now search.old }
-    requires short { search.old.place ≤ 16384 }
+    requires short { search.old.place ≤ LONGEST_FRONT }
     ensures front { IfSome result (FrontAt bytes.now) }
-    ensures none { IfNone result (HasNoFront (take 16384 bytes.now)) }
-    ensures searched { IfNone result (length bytes.now < 16384 → HasSearched bytes.now search.new) }
+    ensures none { IfNone result (HasNoFront (take LONGEST_FRONT bytes.now)) }
+    ensures searched { IfNone result (length bytes.now < LONGEST_FRONT
+        → HasSearched bytes.now search.new) }
 {
     search.front_len(&bytes[..bytes.len().min(LONGEST_FRONT)])
 }
@@ -40,11 +39,12 @@ fn fill_front<S: Source>(source: &mut S, inbox: &mut Inbox) -> Result<Option<usi
         (Given (S.left source.old) (S.left source.new) inbox.old IsUnfinished)) }
     ensures alone { (n : ℕ) → FrontAt inbox.old n
         → (source.new ≡ source.old) × (inbox.new ≡ inbox.old) }
-    ensures ahead { length inbox.new ≤ max (length inbox.old) 20479 }
+    ensures ahead { length inbox.new ≤ max (length inbox.old) LONGEST_INBOX }
+    ensures paced { Paced (S.left source.old) (S.left source.new) inbox.old IsUnfinished }
     ensures cause { ReadCause (S.faults source.old) (S.faults source.new) result }
 {
     let mut search = FrontSearch::new();
-    let mut piece = [0u8; PIECE];
+    let mut piece = [0u8; LONGEST_PIECE];
     loop {
         let bytes = inbox.as_slice();
         let len = bytes.len();
@@ -82,15 +82,17 @@ fn read_body<S: Source>(
         (Given (S.left source.old) (S.left source.new) inbox.old (λ given. length given < size))) }
     ensures alone { size ≤ length inbox.old → source.new ≡ source.old }
     ensures ahead { length inbox.new ≤ length inbox.old }
+    ensures paced { Paced (S.left source.old) (S.left source.new) inbox.old
+        (λ given. length given < size) }
     ensures cause { ReadCause (S.faults source.old) (S.faults source.new) result }
 {
     let mut body = Vec::with_capacity(alloc, size)?;
     let here = inbox.as_slice().len().min(size);
     body.extend_from_slice(&inbox.as_slice()[..here])?;
     inbox.skip(here);
-    let mut room = [0u8; PIECE];
+    let mut room = [0u8; LONGEST_PIECE];
     while body.len() < size {
-        let piece = &mut room[..(size - body.len()).min(PIECE)];
+        let piece = &mut room[..(size - body.len()).min(LONGEST_PIECE)];
         match source.read(piece) {
             Taken::Failed => return Err(RequestFault::ReadFault),
             Taken::Got(0) => return Err(RequestFault::Cut),
@@ -100,13 +102,12 @@ fn read_body<S: Source>(
     Ok(Bytes::from_vec(body))
 }
 
-/// Reads the next request: first what the inbox holds, then the source, in pieces of at most 4,096
-/// bytes and no further than the piece in which the request ends, so that the inbox stays small.
-/// A head that is refused is refused before its body is read. After a refusal the inbox is not used
-/// again.
+/// Reads the next request: first what the inbox holds, then the source, in pieces and no further
+/// than the piece in which the request ends, so that the inbox stays small. A head that is refused
+/// is refused before its body is read. After a refusal the inbox is not used again.
 ///
-/// Where the inbox holds a whole request, the source is left alone; and where the source fails, the
-/// bytes given so far hold none.
+/// Where the inbox holds a whole request, the source is left alone; where the source fails, the
+/// bytes given so far hold none; and however this ends, those given before the last piece do not.
 pub fn next_request<S: Source>(
     alloc: Global,
     source: &mut S,
@@ -119,7 +120,8 @@ pub fn next_request<S: Source>(
         (Given (S.left source.old) (S.left source.new) inbox.old IsUnfinished)) }
     ensures alone { (request : Whole) (after : List ℕ) → Begins inbox.old request after
         → source.new ≡ source.old }
-    ensures ahead { length inbox.new ≤ max (length inbox.old) 20479 }
+    ensures ahead { length inbox.new ≤ max (length inbox.old) LONGEST_INBOX }
+    ensures paced { Paced (S.left source.old) (S.left source.new) inbox.old IsUnfinished }
     ensures cause { ReadCause (S.faults source.old) (S.faults source.new) result }
 {
     let Some(size) = fill_front(source, inbox)? else {

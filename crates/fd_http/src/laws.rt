@@ -1,4 +1,5 @@
 ghost use Rattle.std.specs.Prelude.{◌≡◌, ◌++◌, List, ℕ};
+ghost use Rattle.fd_http.specs.declared.limits.TheConstants.{MOST_REQUESTS};
 ghost use Rattle.fd_http.specs.declared.request.Request.{Request};
 ghost use Rattle.fd_http.specs.Inputs.{Next, Holds, End, Splits, SplitsWithin};
 ghost use Rattle.fd_http.specs.Prefixes.{Leads};
@@ -10,6 +11,6 @@ pub fn split_laws()
     ensures split { (bytes : List ℕ) (rs ss : List Request) (e f : End)
         → Splits bytes rs e → Splits bytes ss f → (rs ≡ ss) × (e ≡ f) }
     ensures prefix { (bytes after : List ℕ) (rs all : List Request) (left : ℕ) (end : End)
-        → Leads rs 100000 bytes left after → Splits bytes all end
+        → Leads rs MOST_REQUESTS bytes left after → Splits bytes all end
         → (more : List Request) × (all ≡ rs ++ more) × SplitsWithin more left after end }
 {}

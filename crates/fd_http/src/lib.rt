@@ -22,6 +22,7 @@ mod headers;
 mod inbox;
 mod intake;
 mod laws;
+pub mod limits;
 mod replies;
 mod request;
 

@@ -1,6 +1,7 @@
 use Rattle.std.proofs.Common.{ℕ, ◌≡◌, List, length, take, min, Option, None, Some, IfNone, arith, ap, sym, subst, ◌∙◌, inl, inr}
 use Rattle.std.proofs.lemmas.List.{take_all}
 use Rattle.std.proofs.lemmas.Bool.{cases_lt}
+use Rattle.fd_http.specs.declared.limits.TheConstants.{LONGEST_FRONT}
 use Rattle.fd_http.specs.Front.{HasNoFront}
 use Rattle.fd_http.specs.Search.{HasSearched}
 use Rattle.fd_http.proofs.SearchLemmas.{searched_take}
@@ -22,7 +23,7 @@ front_len-requires c = searched_take c.args.bytes.now _ c.args.search.now c.requ
 pub returns-clause-none : goal.returns-clause-none
 returns-clause-none c =
     let P : List ℕ → Type 0 = λ seen. IfNone c.front_len.result (HasNoFront seen) in
-    subst P (take_min c.args.bytes.now 16384 c.min.result (omega arith)) c.front_len.ensures.none
+    subst P (take_min c.args.bytes.now LONGEST_FRONT c.min.result (omega arith)) c.front_len.ensures.none
 
 pub returns-clause-searched : goal.returns-clause-searched
 returns-clause-searched c =

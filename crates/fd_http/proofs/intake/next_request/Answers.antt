@@ -3,7 +3,7 @@ use Rattle.fd_http.specs.Arrivals.{AtReadFault}
 use Rattle.fd_http.specs.Remainders.{Given}
 use Rattle.fd_http.specs.Intake.{ReadsBody}
 use Rattle.fd_http.proofs.InputLemmas.{arrives_one, arrives_head_refused, arrives_body_refused, arrives_no_head, same_rest, front_there, head_there, no_head_there}
-use Rattle.fd_http.proofs.GivenLemmas.{given_one, given_cut, given_there, no_read_fault, front_of, body_there}
+use Rattle.fd_http.proofs.GivenLemmas.{given_one, given_cut, given_there, no_read_fault, front_of, body_there, paced_body}
 use Rattle.fd_http.proofs.intake.next_request.Goals as goal
 
 pub returns-in-Err-clause-arrives : goal.returns-in-Err-clause-arrives
@@ -107,3 +107,25 @@ returns-in_default-2-clause-arrives g c =
     (same_rest (g.S.Source.left c.args.source.now) (g.S.Source.left c.fill_front.new.source) c.args.inbox.now c.fill_front.new.inbox c.in_ok-size.field-0 c.in-Some.size c.in-Some.is c.in_ok-size.ensures.fills)
     (front_there c.fill_front.new.inbox c.in_ok-size.field-0 c.in-Some.size c.in-Some.is c.in_ok-size.ensures.front)
     (no_head_there (take c.in-Some.size c.as_slice.result.now) (take c.in-Some.size c.fill_front.new.inbox) c.in_ok-head.field-0 (ap (take c.in-Some.size) c.as_slice.ensures) c.in_default-2.is c.in_ok-head.ensures)
+
+pub returns-in-Err-read_body-clause-paced : goal.returns-in-Err-read_body-clause-paced
+returns-in-Err-read_body-clause-paced g c =
+    paced_body (g.S.Source.left c.args.source.now) (g.S.Source.left c.fill_front.new.source) (g.S.Source.left c.read_body.new.source) c.args.inbox.now c.fill_front.new.inbox c.skip.new.self c.in-Some.size c.in-Some-2.head c.in-Ok.rest
+    (given_there c.in_ok-size.field-0 c.in-Some.size (Given (g.S.Source.left c.args.source.now) (g.S.Source.left c.fill_front.new.source) c.args.inbox.now (λ given. given ≡ c.fill_front.new.inbox)) c.in-Some.is c.in_ok-size.ensures.given)
+    c.in_ok-size.ensures.paced
+    (front_there c.fill_front.new.inbox c.in_ok-size.field-0 c.in-Some.size c.in-Some.is c.in_ok-size.ensures.front)
+    (head_there (take c.in-Some.size c.as_slice.result.now) (take c.in-Some.size c.fill_front.new.inbox) c.in_ok-head.field-0 c.in-Some-2.head (ap (take c.in-Some.size) c.as_slice.ensures) c.in-Some-2.is c.in_ok-head.ensures)
+    (sym c.body_len.ensures ∙ c.in-Ok.is)
+    c.skip.ensures
+    c.in-Err-read_body.ensures.paced
+
+pub returns-clause-paced : goal.returns-clause-paced
+returns-clause-paced g c =
+    paced_body (g.S.Source.left c.args.source.now) (g.S.Source.left c.fill_front.new.source) (g.S.Source.left c.read_body.new.source) c.args.inbox.now c.fill_front.new.inbox c.skip.new.self c.in-Some.size c.in-Some-2.head c.in-Ok.rest
+    (given_there c.in_ok-size.field-0 c.in-Some.size (Given (g.S.Source.left c.args.source.now) (g.S.Source.left c.fill_front.new.source) c.args.inbox.now (λ given. given ≡ c.fill_front.new.inbox)) c.in-Some.is c.in_ok-size.ensures.given)
+    c.in_ok-size.ensures.paced
+    (front_there c.fill_front.new.inbox c.in_ok-size.field-0 c.in-Some.size c.in-Some.is c.in_ok-size.ensures.front)
+    (head_there (take c.in-Some.size c.as_slice.result.now) (take c.in-Some.size c.fill_front.new.inbox) c.in_ok-head.field-0 c.in-Some-2.head (ap (take c.in-Some.size) c.as_slice.ensures) c.in-Some-2.is c.in_ok-head.ensures)
+    (sym c.body_len.ensures ∙ c.in-Ok.is)
+    c.skip.ensures
+    c.in-Ok-read_body.ensures.paced
