@@ -11,6 +11,7 @@ use Rattle.fd_kinds.specs.declared.store.ReadRefusal.TheVariants as read
 use Rattle.fd_kinds.specs.declared.store.Seen.{Seen}
 use Rattle.fd_kinds.specs.Stores.{Written, numbered_from, alone}
 use Rattle.fd_kinds.proofs.StoreLaws.{alone-write, alone-read, alone-stand}
+use Rattle.fd_http.specs.declared.limits.TheConstants.{MOST_REQUESTS}
 use Rattle.fd_http.specs.declared.request.Request.{Request}
 use Rattle.fd_http.specs.declared.replies.Response.{Response}
 use Rattle.fd_api.specs.declared.demand.Demand.{Demand}
@@ -20,7 +21,7 @@ use Rattle.fd_api.specs.declared.note.Note.TheVariants.{Read, Stood, NotDrawn, S
 use Rattle.fd_api.specs.Effects.{TellsWrite, TellsRead, Does, Handles}
 use Rattle.fd_api.specs.Streams.{Streams}
 use Rattle.fd_api.specs.declared.sessions.EndKind.{EndKind}
-use Rattle.fd_api.specs.Sessions.{MOST_REQUESTS, Runs, Ends}
+use Rattle.fd_api.specs.Sessions.{Runs, Ends}
 use Rattle.fd_api.specs.Accounts.{Accounts}
 use Rattle.fd_api.specs.Alone.{Exact, AloneRan, AloneSessionRan}
 use Rattle.fd_api.proofs.RunLaws.{runs}

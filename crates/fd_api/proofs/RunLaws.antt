@@ -15,6 +15,7 @@ use Rattle.fd_kinds.specs.Stores.{Grows, Written, StoreView, Holds, WriteFacts, 
 use Rattle.fd_api.specs.declared.small_batch.SmallBatch.{SmallBatch}
 use Rattle.fd_api.specs.declared.demand.Demand.{Demand}
 use Rattle.fd_api.specs.declared.demand.Demand.TheVariants as asked
+use Rattle.fd_http.specs.declared.limits.TheConstants.{MOST_REQUESTS}
 use Rattle.fd_http.specs.declared.request.Request.{Request}
 use Rattle.fd_http.specs.declared.replies.Response.{Response}
 use Rattle.fd_api.specs.declared.note.Note.{Note}
@@ -22,7 +23,7 @@ use Rattle.fd_api.specs.declared.note.Note.TheVariants.{Read, Wrote, Stood, NotD
 use Rattle.fd_api.specs.Replies.{IsReply, answer_reply, stand_reply}
 use Rattle.fd_api.specs.Demands.{Asks}
 use Rattle.fd_api.specs.Effects.{TellsWrite, TellsRead, Does, Handles}
-use Rattle.fd_api.specs.Sessions.{MOST_REQUESTS, Runs, Ends}
+use Rattle.fd_api.specs.Sessions.{Runs, Ends}
 use Rattle.fd_api.specs.declared.sessions.EndKind.{EndKind}
 use Rattle.fd_api.specs.Streams.{Streams}
 use Rattle.fd_api.specs.Accounts.{Says, Fits, AllRise, Climb, Ran, SessionRan}

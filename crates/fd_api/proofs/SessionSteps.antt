@@ -14,6 +14,7 @@ use Rattle.fd_kinds.specs.declared.store.Seen.{Seen}
 use Rattle.fd_kinds.specs.declared.stand.Stand.{Stand}
 use Rattle.fd_kinds.specs.declared.store.WriteRefusal.{WriteRefusal}
 use Rattle.fd_kinds.specs.declared.store.ReadRefusal.{ReadRefusal}
+use Rattle.fd_http.specs.declared.limits.TheConstants.{MOST_REQUESTS}
 use Rattle.fd_http.specs.declared.request.Request.{Request}
 use Rattle.fd_http.specs.declared.request.Arrived.TheVariants as arrived
 use Rattle.fd_http.specs.Arrivals.{Arrives, AtReadFault, IsUnfinished}
@@ -29,12 +30,13 @@ use Rattle.fd_device.specs.declared.sink.Put.{Put}
 use Rattle.fd_device.specs.declared.sink.Put.TheVariants.{Done, Failed}
 use Rattle.fd_device.specs.Streams.{PutCause}
 use Rattle.fd_api.specs.declared.note.Note.{Note}
+use Rattle.fd_api.specs.declared.note.Note.TheVariants as says
 use Rattle.fd_api.specs.declared.sessions.EndKind.{EndKind}
 use Rattle.fd_api.specs.declared.sessions.EndKind.TheVariants as kind
 use Rattle.fd_api.specs.Streams.{Streams}
-use Rattle.fd_api.specs.Sessions.{MOST_REQUESTS, Runs, Serves, Ends, SinkCause, is_last, is_faulted, Begins, IsSplit, IsBegun, IsDrained, IsDismissal, TakesThen}
+use Rattle.fd_api.specs.Sessions.{Runs, Serves, Ends, SinkCause, is_last, is_faulted, Begins, IsSplit, IsBegun, IsDrained, IsDismissal, TakesThen, KeepsPace, AreSound, FaultsLast}
 use Rattle.fd_api.specs.Turns.{TurnState, between, ReadsNext, HasGiven, PutsReply, Turned, Unturned, NoRequest, EndsAt, Silent, Turns, after_put}
-use Rattle.fd_api.proofs.InputSteps.{HasRead, HasSplit, leads_none, has_read_more, has_read_close, has_read_end, has_read_refused, has_read_limit, given_push, given_all}
+use Rattle.fd_api.proofs.InputSteps.{HasRead, HasSplit, leads_none, no_pace, pace_push, pace_turn, has_read_more, has_read_close, has_read_end, has_read_refused, has_read_limit, given_push, given_all}
 use Rattle.fd_api.proofs.SinkLemmas.{Appends-Keeps}
 
 -- the end at the most requests is no disk fault
@@ -50,8 +52,24 @@ nothing_read None = tt
 nothing_read (Some bytes) = leads_none MOST_REQUESTS bytes
 
 -- the last turn is the one with room for one request
-pub last_of : (served : ℕ) → served < 100000 → (served + 1 == 100000) ≡ (100000 - served == 1)
+pub last_of : (served : ℕ) → served < MOST_REQUESTS → (served + 1 == MOST_REQUESTS) ≡ (MOST_REQUESTS - served == 1)
 last_of served some = grind (arith, nat_tests)
+
+-- one more note that tells of no disk fault
+sound_push : (notes : List Note) (note : Note) → AreSound notes → is_faulted note ≡ false → AreSound (notes ++ note ∷ [])
+sound_push [] note sound is = (is, tt)
+sound_push (first ∷ notes) note sound is = (sound.0, sound_push notes note sound.1 is)
+
+-- the one note that tells of one
+faulted_is : (note : Note) → is_faulted note ≡ true → note ≡ says.Faulted
+faulted_is (says.Read w) e = cc
+faulted_is (says.Wrote n) e = cc
+faulted_is (says.Stood drawn synced w) e = cc
+faulted_is (says.NotDrawn drawn) e = cc
+faulted_is (says.Spent drawn) e = cc
+faulted_is says.Refused e = cc
+faulted_is says.Faulted e = refl
+faulted_is says.Short e = cc
 
 -- what the next turn needs
 goes_on_from : (faulted close : Bool) (put : Put) → cond faulted (Some kind.DiskFault) (after_put close put) ≡ None → (faulted ≡ false) × (put ≡ Done) × (close ≡ false)
@@ -132,6 +150,8 @@ module _ {S : Type 0} (write_gives : S → List Row → Result ℕ WriteRefusal 
     pub output : List ℕ
     pub read : HasRead old.input.told now.streams.input.told [] now.inbox requests room
     pub given : Given old.input.told now.streams.input.told [] (λ given. Leads requests MOST_REQUESTS given room now.inbox)
+    pub pace : KeepsPace old.input.told now.streams.input.told requests
+    pub sound : AreSound now.notes
     pub count : length requests + room ≡ MOST_REQUESTS
     pub run : Runs write_gives read_gives stand_gives first MOST_REQUESTS requests now.notes now.store output
     pub written : Appends old.output.told now.streams.output.told output
@@ -143,6 +163,8 @@ module _ {S : Type 0} (write_gives : S → List Row → Result ℕ WriteRefusal 
     output = [];
     read = nothing_read old.input.told;
     given = record { bytes = []; consumed = Consumes-nil old.input.told; holds = (refl, refl) };
+    pace = no_pace old.input.told;
+    sound = subst AreSound (sym none) tt;
     count = refl;
     run = subst (λ (ns : List Note). Runs write_gives read_gives stand_gives store MOST_REQUESTS [] ns store []) (sym none) (refl, refl);
     written = Appends-nil old.output.told;
@@ -180,6 +202,17 @@ module _ {S : Type 0} (write_gives : S → List Row → Result ℕ WriteRefusal 
           subst (λ (ns : List Note). Runs write_gives read_gives stand_gives first MOST_REQUESTS requests ns now.store output) (sym t.noted)
           (runs_push so_far.requests mid.notes first mid.store now.store MOST_REQUESTS room so_far.output t.bytes t.request t.note so_far.run so_far.count some t.serves)
 
+      pace : KeepsPace left_old left_now requests
+      pace = pace_push left_old left_now so_far.requests t.request (pace_turn left_old left_mid left_now mid.inbox so_far.requests room so_far.pace so_far.given some t.paced)
+
+      -- no disk fault yet
+      sound : is_faulted t.note ≡ false → AreSound now.notes
+      sound is = subst AreSound (sym t.noted) (sound_push mid.notes t.note so_far.sound is)
+
+      -- the first one
+      faulted : is_faulted t.note ≡ true → FaultsLast kind.DiskFault now.notes
+      faulted is = (mid.notes, t.noted ∙ ap (λ (n : Note). mid.notes ++ n ∷ []) (faulted_is t.note is), so_far.sound)
+
       begun : IsBegun left_old requests
       begun = begun_from left_old left_mid left_now mid.inbox now.inbox so_far.requests room t.request so_far.read some t.arrives t.request.close refl
 
@@ -193,6 +226,8 @@ module _ {S : Type 0} (write_gives : S → List Row → Result ℕ WriteRefusal 
             output = output None t;
             read = has_read_more left_old left_mid left_now [] mid.inbox now.inbox so_far.requests room t.request so_far.read some t.arrives going.2;
             given = given_push left_old left_mid left_now mid.inbox now.inbox so_far.requests room t.request so_far.given some t.given going.2;
+            pace = pace None t;
+            sound = sound None t going.0;
             count = omega (arith, length-append so_far.requests (t.request ∷ []), so_far.count);
             run = run None t;
             written = Appends-trans taken_old taken_mid taken_now so_far.output t.bytes so_far.written sent;
@@ -216,48 +251,56 @@ module _ {S : Type 0} (write_gives : S → List Row → Result ℕ WriteRefusal 
 
       module _ (end : Option EndKind) (t : Turned write_gives read_gives stand_gives mid now (room == 1) end) where
         -- the disk failed: the reply to that was written, or not
-        failed : (put : Put) → PutsReply taken_mid taken_now t.bytes put → PutCause mid.streams.output.faults now_count put → Finish kind.DiskFault
-        failed Done sent kept =
+        failed : (put : Put) → is_faulted t.note ≡ true → PutsReply taken_mid taken_now t.bytes put → PutCause mid.streams.output.faults now_count put → Finish kind.DiskFault
+        failed Done faults sent kept =
             let same : now_count ≡ before = kept ∙ same_count in (
-              record { requests = requests end t; output = output end t; read = begun end t; run = run end t; written = inl (Appends-trans taken_old taken_mid taken_now so_far.output t.bytes so_far.written sent, same) },
+              record { requests = requests end t; output = output end t; read = begun end t; pace = pace end t; run = run end t; written = inl (Appends-trans taken_old taken_mid taken_now so_far.output t.bytes so_far.written sent, same); faulted = faulted end t faults },
               inl same,
             )
-        failed Failed sent rose = (
-          record { requests = requests end t; output = output end t; read = begun end t; run = run end t; written = inr (front_more taken_old taken_mid taken_now so_far.output t.bytes so_far.written sent, rose_since rose) },
+        failed Failed faults sent rose = (
+          record { requests = requests end t; output = output end t; read = begun end t; pace = pace end t; run = run end t; written = inr (front_more taken_old taken_mid taken_now so_far.output t.bytes so_far.written sent, rose_since rose); faulted = faulted end t faults },
           inr (rose_since rose),
         )
 
-        ended_by : (faulted close : Bool) (put : Put) (e : EndKind) → t.request.close ≡ close → PutsReply taken_mid taken_now t.bytes put → PutCause mid.streams.output.faults now_count put
-            → Some e ≡ cond faulted (Some kind.DiskFault) (after_put close put) → Finish e
-        ended_by true close put e closes sent cause is = let same : kind.DiskFault ≡ e = cc in subst Finish same (failed put sent cause)
-        ended_by false close Failed e closes sent rose is =
+        ended_by : (faults close : Bool) (put : Put) (e : EndKind) → is_faulted t.note ≡ faults → t.request.close ≡ close → PutsReply taken_mid taken_now t.bytes put → PutCause mid.streams.output.faults now_count put
+            → Some e ≡ cond faults (Some kind.DiskFault) (after_put close put) → Finish e
+        ended_by true close put e faults closes sent cause is = let same : kind.DiskFault ≡ e = cc in subst Finish same (failed put faults sent cause)
+        ended_by false close Failed e healthy closes sent rose is =
             let same : kind.WriteFault ≡ e = cc in
             subst Finish same (
-              record { requests = requests end t; output = output end t; read = begun end t; run = run end t; written = inl (front_more taken_old taken_mid taken_now so_far.output t.bytes so_far.written sent) },
+              record { requests = requests end t; output = output end t; read = begun end t; pace = pace end t; run = run end t; written = inl (front_more taken_old taken_mid taken_now so_far.output t.bytes so_far.written sent); faulted = sound end t healthy },
               rose_since rose,
             )
-        ended_by false true Done e closes sent kept is =
+        ended_by false true Done e healthy closes sent kept is =
             let same : kind.Closed ≡ e = cc in
             subst Finish same (
               record {
                 requests = requests end t;
                 output = output end t;
                 read = split_from left_old left_now now.inbox (requests end t) closed (has_read_close left_old left_mid left_now [] mid.inbox now.inbox so_far.requests room t.request so_far.read some t.arrives closes);
+                pace = pace end t;
                 run = run end t;
                 written = Appends-trans taken_old taken_mid taken_now so_far.output t.bytes so_far.written sent;
+                faulted = sound end t healthy;
               },
               kept ∙ same_count,
             )
-        ended_by false false Done e closes sent kept is = cc
+        ended_by false false Done e healthy closes sent kept is = cc
 
       turned_ends : (e : EndKind) → Turned write_gives read_gives stand_gives mid now (room == 1) (Some e) → Finish e
-      turned_ends e t = ended_by (Some e) t (is_faulted t.note) t.request.close t.put e refl t.sent t.count t.goes
+      turned_ends e t = ended_by (Some e) t (is_faulted t.note) t.request.close t.put e refl refl t.sent t.count t.goes
 
       module _ (end : Option EndKind) (u : Unturned write_gives read_gives stand_gives mid now end) where
         run_so_far : Runs write_gives read_gives stand_gives first MOST_REQUESTS so_far.requests now.notes now.store so_far.output
         run_so_far =
             subst (λ (x : S). Runs write_gives read_gives stand_gives first MOST_REQUESTS so_far.requests now.notes x so_far.output) (sym u.store)
             (subst (λ (ns : List Note). Runs write_gives read_gives stand_gives first MOST_REQUESTS so_far.requests ns mid.store so_far.output) (sym u.noted) so_far.run)
+
+        pace_so_far : KeepsPace left_old left_now so_far.requests
+        pace_so_far = pace_turn left_old left_mid left_now mid.inbox so_far.requests room so_far.pace so_far.given some u.paced
+
+        sound_so_far : AreSound now.notes
+        sound_so_far = subst AreSound (sym u.noted) so_far.sound
 
         begins : Begins left_old so_far.requests
         begins = begins_from left_old left_mid mid.inbox so_far.requests room so_far.read
@@ -276,7 +319,9 @@ module _ {S : Type 0} (write_gives : S → List Row → Result ℕ WriteRefusal 
             requests = so_far.requests;
             output = so_far.output;
             read = inl begins;
+            pace = pace_so_far;
             run = run_so_far;
+            faulted = sound_so_far;
             written = inr (f, split, last, sent, front_more taken_old taken_mid taken_now so_far.output last so_far.written front);
           },
           rose_since rose,
@@ -293,7 +338,9 @@ module _ {S : Type 0} (write_gives : S → List Row → Result ℕ WriteRefusal 
             requests = so_far.requests;
             output = so_far.output;
             read = begins;
+            pace = pace_so_far;
             run = run_so_far;
+            faulted = sound_so_far;
             written = inl (Appends-trans taken_old taken_mid taken_now so_far.output _ so_far.written sent, kept ∙ same_count);
           },
           inl (kept ∙ same_count),
@@ -303,7 +350,9 @@ module _ {S : Type 0} (write_gives : S → List Row → Result ℕ WriteRefusal 
             requests = so_far.requests;
             output = so_far.output;
             read = begins;
+            pace = pace_so_far;
             run = run_so_far;
+            faulted = sound_so_far;
             written = inr (front.0, front.1, Appends-trans taken_old taken_mid taken_now so_far.output _ so_far.written front.2, rose_since rose);
           },
           inr (rose_since rose),
@@ -312,18 +361,18 @@ module _ {S : Type 0} (write_gives : S → List Row → Result ℕ WriteRefusal 
         refused_ends : (f : RequestFault) (e : EndKind) → ReadsNext mid now (Err f) → AtReadFault f (HasGiven mid now IsUnfinished)
             → EndsAt mid.streams.output now.streams.output f e → Finish e
         refused_ends head.BadHead e arrives given (inl (is, kept, last, sent, more)) =
-            subst Finish (sym is) (record { requests = so_far.requests; output = so_far.output; read = split_refused head.BadHead arrives; run = run_so_far; written = written_last head.BadHead last sent more }, kept ∙ same_count)
+            subst Finish (sym is) (record { requests = so_far.requests; output = so_far.output; read = split_refused head.BadHead arrives; pace = pace_so_far; run = run_so_far; faulted = sound_so_far; written = written_last head.BadHead last sent more }, kept ∙ same_count)
         refused_ends head.BadHead e arrives given (inr (is, rose, last, sent, front)) = subst Finish (sym is) (unwritten head.BadHead (split_refused head.BadHead arrives) rose last sent front)
         refused_ends head.NoLength e arrives given (inl (is, kept, last, sent, more)) =
-            subst Finish (sym is) (record { requests = so_far.requests; output = so_far.output; read = split_refused head.NoLength arrives; run = run_so_far; written = written_last head.NoLength last sent more }, kept ∙ same_count)
+            subst Finish (sym is) (record { requests = so_far.requests; output = so_far.output; read = split_refused head.NoLength arrives; pace = pace_so_far; run = run_so_far; faulted = sound_so_far; written = written_last head.NoLength last sent more }, kept ∙ same_count)
         refused_ends head.NoLength e arrives given (inr (is, rose, last, sent, front)) = subst Finish (sym is) (unwritten head.NoLength (split_refused head.NoLength arrives) rose last sent front)
         refused_ends head.TooLarge e arrives given (inl (is, kept, last, sent, more)) =
-            subst Finish (sym is) (record { requests = so_far.requests; output = so_far.output; read = split_refused head.TooLarge arrives; run = run_so_far; written = written_last head.TooLarge last sent more }, kept ∙ same_count)
+            subst Finish (sym is) (record { requests = so_far.requests; output = so_far.output; read = split_refused head.TooLarge arrives; pace = pace_so_far; run = run_so_far; faulted = sound_so_far; written = written_last head.TooLarge last sent more }, kept ∙ same_count)
         refused_ends head.TooLarge e arrives given (inr (is, rose, last, sent, front)) = subst Finish (sym is) (unwritten head.TooLarge (split_refused head.TooLarge arrives) rose last sent front)
         refused_ends head.Cut e arrives given (is, s) =
-            subst Finish (sym is) (record { requests = so_far.requests; output = so_far.output; read = split_refused head.Cut arrives; run = run_so_far; written = silent s }, s.count ∙ same_count)
+            subst Finish (sym is) (record { requests = so_far.requests; output = so_far.output; read = split_refused head.Cut arrives; pace = pace_so_far; run = run_so_far; faulted = sound_so_far; written = silent s }, s.count ∙ same_count)
         refused_ends head.ReadFault e arrives given (is, s) =
-            subst Finish (sym is) (record { requests = so_far.requests; output = so_far.output; read = (begins, given_all left_old left_mid left_now mid.inbox so_far.requests room so_far.given some given); run = run_so_far; written = silent s }, s.count ∙ same_count)
+            subst Finish (sym is) (record { requests = so_far.requests; output = so_far.output; read = (begins, given_all left_old left_mid left_now mid.inbox so_far.requests room so_far.given some given); pace = pace_so_far; run = run_so_far; faulted = sound_so_far; written = silent s }, s.count ∙ same_count)
         refused_ends head.NoMemory e arrives given (is, short) = subst Finish (sym is) (gave_up short.0 short.1 short.2)
 
         ended : ReadsNext mid now (Ok arrived.End) → Silent mid.streams.output now.streams.output → Finish kind.Ended
@@ -335,7 +384,9 @@ module _ {S : Type 0} (write_gives : S → List Row → Result ℕ WriteRefusal 
               split_from left_old left_now now.inbox so_far.requests ends.ended (has_read_end left_old left_mid left_now [] mid.inbox now.inbox so_far.requests room so_far.read some arrives),
               drained_from left_old left_mid left_now mid.inbox now.inbox so_far.requests room so_far.read arrives,
             );
+            pace = pace_so_far;
             run = run_so_far;
+            faulted = sound_so_far;
             written = silent s;
           },
           s.count ∙ same_count,
@@ -368,6 +419,8 @@ module _ {S : Type 0} (write_gives : S → List Row → Result ℕ WriteRefusal 
     requests = so_far.requests;
     output = so_far.output;
     read = split_from old.input.told now.streams.input.told now.inbox so_far.requests limit (has_read_limit old.input.told now.streams.input.told [] now.inbox so_far.requests 0 so_far.read refl);
+    pace = so_far.pace;
     run = so_far.run;
     written = so_far.written;
+    faulted = so_far.sound;
   }

@@ -8,6 +8,7 @@ use Rattle.fd_kinds.specs.Stores.{Grows, Written, StoreView, Holds, Tops}
 use Rattle.fd_api.specs.declared.small_batch.SmallBatch.{SmallBatch}
 use Rattle.fd_api.specs.declared.demand.Demand.{Demand}
 use Rattle.fd_api.specs.declared.demand.Demand.TheVariants as asked
+use Rattle.fd_http.specs.declared.limits.TheConstants.{MOST_REQUESTS}
 use Rattle.fd_http.specs.declared.request.Request.{Request}
 use Rattle.fd_http.specs.declared.replies.Response.{Response}
 use Rattle.fd_http.specs.declared.replies.Method.{Method}
@@ -19,7 +20,7 @@ use Rattle.fd_api.specs.Demands.{Asks}
 use Rattle.fd_api.specs.Replies.{IsReply, IsSent, refusal, not_allowed, number_reply, answer_reply, stand_reply, short}
 use Rattle.fd_api.specs.Streams.{Streams}
 use Rattle.fd_api.specs.declared.sessions.EndKind.{EndKind}
-use Rattle.fd_api.specs.Sessions.{is_last, MOST_REQUESTS, ReadBy, SentBy}
+use Rattle.fd_api.specs.Sessions.{is_last, ReadBy, SentBy}
 
 -- What a note says of what was asked, over the history in the end: the reply, and what was written for it.
 abbrev pub Says : History → Demand → Note → Response → List Written → Type 0

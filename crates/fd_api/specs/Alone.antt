@@ -2,12 +2,13 @@
 use Rattle.std.specs.Prelude.{◌≡◌, ℕ, ◌+◌, List, [], ◌∷◌, ◌++◌}
 use Rattle.fd_kinds.specs.History.{History, LocalView, history_of, count_of}
 use Rattle.fd_kinds.specs.Stores.{numbered_from}
+use Rattle.fd_http.specs.declared.limits.TheConstants.{MOST_REQUESTS}
 use Rattle.fd_http.specs.declared.request.Request.{Request}
 use Rattle.fd_api.specs.declared.note.Note.{Note}
 use Rattle.fd_api.specs.declared.note.Note.TheVariants.{Read, Wrote, Stood, NotDrawn, Spent, Refused, Faulted, Short}
 use Rattle.fd_api.specs.declared.sessions.EndKind.{EndKind}
 use Rattle.fd_api.specs.Accounts.{Accounts}
-use Rattle.fd_api.specs.Sessions.{MOST_REQUESTS, ReadBy, SentBy}
+use Rattle.fd_api.specs.Sessions.{ReadBy, SentBy}
 use Rattle.fd_api.specs.Streams.{Streams}
 
 -- After so many batches: an accepted write has the next number, and each other number is that of the batches so far.

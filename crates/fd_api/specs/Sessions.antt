@@ -1,6 +1,6 @@
 -- A session: requests, what each did to the store, the bytes sent for it, and the end.
-use Rattle.std.specs.Prelude.{◌≡◌, ℕ, ◌-◌, ◌<◌, ◌≤◌, ◌⊎◌, ◌==◌, ◌||◌, Bool, true, false, List, [], ◌∷◌, ◌++◌, Option, Result, MatchOption, length, take, ⊤}
-use Rattle.std.specs.Io.KnownBytes.{Appends}
+use Rattle.std.specs.Prelude.{◌≡◌, ℕ, ◌-◌, ◌<◌, ◌≤◌, ◌⊎◌, ◌==◌, ◌||◌, Bool, true, false, List, [], ◌∷◌, ◌++◌, Option, Result, MatchOption, length, take, IsFalse, ⊤}
+use Rattle.std.specs.Io.KnownBytes.{Appends, Consumes}
 use Rattle.fd_lists.specs.Counts.{Rose}
 use Rattle.fd_kinds.specs.declared.row.Row.{Row}
 use Rattle.fd_kinds.specs.declared.query.Query.{Query}
@@ -8,6 +8,7 @@ use Rattle.fd_kinds.specs.declared.store.Seen.{Seen}
 use Rattle.fd_kinds.specs.declared.stand.Stand.{Stand}
 use Rattle.fd_kinds.specs.declared.store.WriteRefusal.{WriteRefusal}
 use Rattle.fd_kinds.specs.declared.store.ReadRefusal.{ReadRefusal}
+use Rattle.fd_http.specs.declared.limits.TheConstants.{LONGEST_PIECE, MOST_REQUESTS}
 use Rattle.fd_http.specs.declared.request.Request.{Request}
 use Rattle.fd_http.specs.declared.request.RequestFault.{RequestFault}
 use Rattle.fd_http.specs.declared.request.RequestFault.TheVariants as head
@@ -25,10 +26,6 @@ use Rattle.fd_api.specs.declared.sessions.EndKind.TheVariants as kind
 use Rattle.fd_api.specs.Effects.{Handles}
 use Rattle.fd_api.specs.Replies.{IsSent, refusal}
 use Rattle.fd_api.specs.Streams.{Stream, Streams}
-
--- how many requests a session takes
-abbrev pub MOST_REQUESTS : ℕ
-MOST_REQUESTS = 100000
 
 abbrev pub is_faulted : Note → Bool
 is_faulted (Read w) = false
@@ -64,6 +61,37 @@ IsBegun told requests = Begins told requests ⊎ IsSplit told requests closed
 -- inside another.
 abbrev pub AreAllGiven : Option (List ℕ) → Option (List ℕ) → List Request → Type 0
 AreAllGiven old new requests = Given old new [] (λ given. Splits given requests ended ⊎ Splits given requests (refused_as head.Cut))
+
+-- No more is read than the requests need: the bytes that the source gave before the last piece, as an input of their own,
+-- split into the first of these requests, and end with the last of those or inside another.
+pub record KeepsPace (old new : Option (List ℕ)) (requests : List Request) : Type 0 where
+  pub before : List ℕ
+  pub piece : List ℕ
+  pub consumed : Consumes old new (before ++ piece)
+  pub small : length piece ≤ LONGEST_PIECE
+  pub handled : List Request
+  pub more : List Request
+  pub all : requests ≡ handled ++ more
+  pub holds : Splits before handled ended ⊎ Splits before handled (refused_as head.Cut)
+
+-- no note tells of a disk fault
+abbrev pub AreSound : List Note → Type 0
+AreSound [] = ⊤
+AreSound (note ∷ notes) = IsFalse (is_faulted note) × AreSound notes
+
+-- a note that tells of one is the last, and stands there exactly at that end
+abbrev pub FaultsLast : EndKind → List Note → Type 0
+FaultsLast kind.Ended notes = AreSound notes
+FaultsLast kind.Closed notes = AreSound notes
+FaultsLast kind.Limit notes = AreSound notes
+FaultsLast kind.Cut notes = AreSound notes
+FaultsLast kind.BadHead notes = AreSound notes
+FaultsLast kind.NoLength notes = AreSound notes
+FaultsLast kind.TooLarge notes = AreSound notes
+FaultsLast kind.ReadFault notes = AreSound notes
+FaultsLast kind.WriteFault notes = AreSound notes
+FaultsLast kind.DiskFault notes = (before : List Note) × (notes ≡ before ++ Faulted ∷ []) × AreSound before
+FaultsLast kind.NoMemory notes = AreSound notes
 
 -- the one reply to a head that is refused
 abbrev pub IsDismissal : RequestFault → List ℕ → Type 0
@@ -152,8 +180,10 @@ module _ {S : Type 0} (write_gives : S → List Row → Result ℕ WriteRefusal 
     pub requests : List Request
     pub output : List ℕ
     pub read : ReadBy old.input new.input end requests
+    pub pace : KeepsPace old.input.told new.input.told requests
     pub run : Runs first MOST_REQUESTS requests notes last output
     pub written : SentBy old new end requests output
+    pub faulted : FaultsLast end notes
 
 -- a read fault raised the source's count, and nothing else did
 abbrev pub SourceCause : ℕ → ℕ → EndKind → Type 0

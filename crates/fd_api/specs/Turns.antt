@@ -16,7 +16,7 @@ use Rattle.fd_http.specs.declared.request.RequestFault.TheVariants as head
 use Rattle.fd_http.specs.declared.replies.Response.TheVariants as response
 use Rattle.fd_http.specs.Arrivals.{Arrives, AtReadFault, IsUnfinished}
 use Rattle.fd_http.specs.Inputs.{Begins}
-use Rattle.fd_http.specs.Remainders.{Given}
+use Rattle.fd_http.specs.Remainders.{Given, Paced}
 use Rattle.fd_http.specs.Replies.{AppendsFront, reply_bytes}
 use Rattle.fd_device.specs.declared.sink.Put.{Put}
 use Rattle.fd_device.specs.declared.sink.Put.TheVariants.{Done, Failed}
@@ -87,6 +87,10 @@ ReadsNext old new answer = Arrives old.streams.input.told new.streams.input.told
 abbrev pub HasGiven : {S : Type 0} → TurnState S → TurnState S → (List ℕ → Type 0) → Type 0
 HasGiven old new Is = Given old.streams.input.told new.streams.input.told old.inbox Is
 
+-- nothing was read, or what was given before the last piece held no whole request
+abbrev pub ReadsPaced : {S : Type 0} → TurnState S → TurnState S → Type 0
+ReadsPaced old new = Paced old.streams.input.told new.streams.input.told old.inbox IsUnfinished
+
 -- no request arrived: the input ended, or something spoke against the next request
 abbrev pub NoRequest : {S : Type 0} → TurnState S → TurnState S → EndKind → Type 0
 NoRequest old new end =
@@ -103,6 +107,7 @@ module _ {S : Type 0} (write_gives : S → List Row → Result ℕ WriteRefusal 
     pub put : Put
     pub arrives : ReadsNext old new (Ok (arrived.One request))
     pub given : HasGiven old new (λ given. Begins given request new.inbox)
+    pub paced : ReadsPaced old new
     pub serves : Serves write_gives read_gives stand_gives request old.store note new.store (request.close || last || is_faulted note) bytes
     pub noted : new.notes ≡ old.notes ++ note ∷ []
     pub sent : PutsReply old.streams.output.told new.streams.output.told bytes put
@@ -113,6 +118,7 @@ module _ {S : Type 0} (write_gives : S → List Row → Result ℕ WriteRefusal 
   pub record Unturned (old new : TurnState S) (end : Option EndKind) : Type 0 where
     pub store : new.store ≡ old.store
     pub noted : new.notes ≡ old.notes
+    pub paced : ReadsPaced old new
     pub kind : EndKind
     pub ends : end ≡ Some kind
     pub how : NoRequest old new kind

@@ -12,6 +12,7 @@ ghost use Rattle.fd_api.specs.Turns.{between};
 use crate::handler::{handle, refuse};
 use crate::{Handled, Note, Notes};
 use fd_device::{Put, Sink, Source};
+use fd_http::limits::MOST_REQUESTS;
 use fd_http::{Arrived, Inbox, Request, RequestFault, Response, SendFault, next_request, reply};
 use fd_json::Fault;
 use fd_kinds::{RoomyList, Store};
@@ -50,8 +51,6 @@ pub struct SessionEnd {
     pub end: EndKind,
     pub notes: Notes,
 }
-
-const MOST_REQUESTS: u32 = 100_000;
 
 fn closing(reply: Response, close: bool) -> Response
     ensures reply { result ≡ closing close reply }
@@ -221,8 +220,15 @@ fn turn<T: Store, S: Source, K: Sink>(
     }
 }
 
-/// The turns of a session.
-fn serve<T: Store, S: Source, K: Sink>(
+/// Handles the requests of a source in order, and writes each reply before it reads on.
+///
+/// By what any store tells of its calls, the history only grows, what was written through the store
+/// gains exactly the batches of the notes, in order and under rising numbers, told watermarks never
+/// fall, and each note with its reply fits the history in the end.
+///
+/// The store must be one none of whose calls has met a disk fault, and is handed back so at every
+/// end but that fault.
+pub fn session<T: Store, S: Source, K: Sink>(
     alloc: Global,
     store: &mut T,
     input: &mut S,
@@ -237,6 +243,10 @@ fn serve<T: Store, S: Source, K: Sink>(
     ensures sink { SinkCause (K.faults out.old) (K.faults out.new) result.end }
     ensures disk { StoreCause (T.faults store.old) (T.faults store.new) result.end }
     ensures healthy { result.end ≢ EndKind.DiskFault → T.has_failed store.new ≡ false }
+    ensures law { SessionRan
+        (streams (stream S.left S.faults input.old) (stream K.taken K.faults out.old))
+        (streams (stream S.left S.faults input.new) (stream K.taken K.faults out.new))
+        (T.sees store.old) result.notes (T.sees store.new) result.end }
 {
     let mut notes = RoomyList::new(alloc);
     let mut inbox = match Inbox::new(alloc) {
@@ -261,32 +271,4 @@ fn serve<T: Store, S: Source, K: Sink>(
         end: EndKind::Limit,
         notes: Notes::of(notes),
     }
-}
-
-/// Handles the requests of a source in order, and writes each reply before it reads on.
-///
-/// By what any store tells of its calls, the history only grows, what was written through the store
-/// gains exactly the batches of the notes, in order and under rising numbers, told watermarks never
-/// fall, and each note with its reply fits the history in the end.
-pub fn session<T: Store, S: Source, K: Sink>(
-    alloc: Global,
-    store: &mut T,
-    input: &mut S,
-    out: &mut K,
-) -> SessionEnd
-    requires { T.has_failed store.old ≡ false }
-    ensures ends { Ends T.write_gives T.read_gives T.stand_gives
-        (streams (stream S.left S.faults input.old) (stream K.taken K.faults out.old))
-        (streams (stream S.left S.faults input.new) (stream K.taken K.faults out.new))
-        store.old result.notes store.new result.end }
-    ensures source { SourceCause (S.faults input.old) (S.faults input.new) result.end }
-    ensures sink { SinkCause (K.faults out.old) (K.faults out.new) result.end }
-    ensures disk { StoreCause (T.faults store.old) (T.faults store.new) result.end }
-    ensures healthy { result.end ≢ EndKind.DiskFault → T.has_failed store.new ≡ false }
-    ensures law { SessionRan
-        (streams (stream S.left S.faults input.old) (stream K.taken K.faults out.old))
-        (streams (stream S.left S.faults input.new) (stream K.taken K.faults out.new))
-        (T.sees store.old) result.notes (T.sees store.new) result.end }
-{
-    serve(alloc, store, input, out)
 }
