@@ -9,8 +9,8 @@ use fd_kinds::{NoMemory, Numbered, compare_rows};
 use std::alloc::Global;
 use std::marker::Model;
 
-/// Rows that are put in columns one after the other, with the last of them, behind which the next
-/// has to fit (`may_take`); contracts see them as the list of the rows so far.
+/// Rows that are put in columns one after the other, none below the one before it, with a copy of
+/// the last; contracts see them as the list of the rows so far.
 #[derive(Drop)]
 pub(crate) struct RowBuilder {
     rows: PartBuilder,
@@ -40,7 +40,7 @@ impl RowBuilder {
     }
 
     /// Whether a row may stand behind the last one.
-    pub(crate) fn may_take(&self, next: &Numbered) -> bool
+    fn may_take(&self, next: &Numbered) -> bool
         ensures { Decides result (MayFollow (slice_get self.now (length self.now - 1)) next.now) }
     {
         match &self.last {
@@ -52,7 +52,7 @@ impl RowBuilder {
     }
 
     /// The rows and one more behind them.
-    pub(crate) fn with_last(self, next: Numbered) -> Result<RowBuilder, NoMemory>
+    fn with_last(self, next: Numbered) -> Result<RowBuilder, NoMemory>
         requires number { next.number < 2 ^ 63 }
         requires short { AreShort next.row.stack }
         ensures { IfOk result (λ all. all ≡ self ++ next ∷ []) }
@@ -63,6 +63,22 @@ impl RowBuilder {
             rows,
             last: Some(next),
         })
+    }
+
+    /// The rows and one more, none where that may not stand behind them.
+    pub(crate) fn with_next(self, next: Numbered) -> Result<Option<RowBuilder>, NoMemory>
+        requires number { next.number < 2 ^ 63 }
+        requires short { AreShort next.row.stack }
+        ensures pushed { IfOk result (λ more. IfSome more (λ all. all ≡ self ++ next ∷ [])) }
+        ensures follows { IfOk result
+            (λ more. IfSome more (λ _. MayFollow (slice_get self (length self - 1)) next)) }
+        ensures none { IfOk result
+            (λ more. more ≡ None → MayFollow (slice_get self (length self - 1)) next → ⊥) }
+    {
+        if !self.may_take(&next) {
+            return Ok(None);
+        }
+        Ok(Some(self.with_last(next)?))
     }
 
     /// The part of these rows.

@@ -168,10 +168,9 @@ fn rows_in(
         let Some(next) = numbered_at(alloc, columns, cells, at, lo, hi)? else {
             return Ok(None);
         };
-        if !rows.may_take(&next) {
+        let Some(more) = rows.with_next(next)? else {
             return Ok(None);
-        }
-        let more = rows.with_last(next)?;
+        };
         rows = more;
     }
     Ok(Some(rows))
