@@ -13,11 +13,18 @@ use std::sync::Arc;
 
 /// A list that does not change, which contracts see as the list of its items. Copies share the
 /// items.
-#[derive(Debug, Drop)]
+#[derive(Debug)]
 pub struct Shared<T> {
     /// None where there is no item.
     items: Option<Arc<Items<T>>>,
     alloc: Global,
+}
+
+/// Written by hand, so that who lets go of a list proves one call and not the cases inside it.
+impl<T: Drop> Drop for Shared<T> {
+    fn drop(self) {
+        let Shared { items: _, alloc: _ } = self;
+    }
 }
 
 impl<T> Model for Shared<T> {
