@@ -1,4 +1,5 @@
 ghost use Rattle.std.specs.Prelude.{◌≡◌, ◌<◌, ◌^◌, [], ◌∷◌, IfOk};
+ghost use Rattle.fd_column.specs.Stacks.{AreShort};
 
 use fd_column::{ColumnPart, Columns, PartBuilder, is_short};
 use fd_kinds::{NoMemory, Numbered, Stack, Text};
@@ -24,14 +25,24 @@ fn numbered(alloc: Global) -> Result<Numbered, NoMemory>
     Ok(Numbered { number: 7, row })
 }
 
+fn short_part_of(alloc: Global, row: &Numbered) -> Result<ColumnPart, NoMemory>
+    requires number { row.now.number < 2 ^ 63 }
+    requires short { AreShort row.now.row.stack }
+    ensures { IfOk result (λ part. part ≡ row.now ∷ []) }
+{
+    PartBuilder::new(alloc).with_row(row)?.finish()
+}
+
+/// The columns of a row; a frame that is too long for a table wants memory.
 fn part_of(alloc: Global, row: &Numbered) -> Result<ColumnPart, NoMemory>
     requires { row.now.number < 2 ^ 63 }
     ensures { IfOk result (λ part. part ≡ row.now ∷ []) }
 {
-    if !is_short(&row.row.stack) {
-        return Err(NoMemory);
+    if is_short(&row.row.stack) {
+        short_part_of(alloc, row)
+    } else {
+        Err(NoMemory)
     }
-    PartBuilder::new(alloc).with_row(row)?.finish()
 }
 
 /// The columns of the one row.

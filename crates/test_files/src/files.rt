@@ -1,5 +1,7 @@
-ghost use Rattle.std.specs.Prelude.{◌≡◌, All, IfOk, length};
+ghost use Rattle.std.specs.Prelude.{◌≡◌, ◌<◌, ◌^◌, [], ◌∷◌, All, IfOk, IsSorted, length};
+ghost use Rattle.fd_column.specs.RowNumbers.{numbered_cmp};
 ghost use Rattle.fd_kinds.specs.Parts.{IsWithin};
+ghost use Rattle.fd_column.specs.Stacks.{AreShort};
 ghost use Rattle.fd_table_file.specs.Files.{IsSmall};
 
 use fd_column::{ColumnPart, Columns, PartBuilder, is_short};
@@ -107,23 +109,53 @@ const OTHER: MadeRow<'static> = MadeRow {
     ..BASE
 };
 
+/// The table of two rows that are in order.
+fn two_rows(alloc: Global, first: &Numbered, second: &Numbered) -> Result<ColumnPart, NoMemory>
+    requires first { first.now.number < 2 ^ 63 }
+    requires second { second.now.number < 2 ^ 63 }
+    requires first_short { AreShort first.now.row.stack }
+    requires second_short { AreShort second.now.row.stack }
+    requires sorted { IsSorted numbered_cmp (first.now ∷ second.now ∷ []) }
+    ensures { IfOk result (λ table. table ≡ first.now ∷ second.now ∷ []) }
+{
+    PartBuilder::new(alloc)
+        .with_row(first)?
+        .with_row(second)?
+        .finish()
+}
+
 /// The table of two rows of fewer than 1,000 bytes. Rows out of order or larger ones want memory.
 fn table_of(alloc: Global, first: &Numbered, second: &Numbered) -> Result<ColumnPart, NoMemory>
+    requires first { first.now.number ≡ 7 }
+    requires second { second.now.number ≡ 6 }
+    requires first_short { AreShort first.now.row.stack }
+    requires second_short { AreShort second.now.row.stack }
+    ensures count { IfOk result (λ table. length table ≡ 2) }
+    ensures within { IfOk result (λ table. All (IsWithin 6 9) table) }
+    ensures small { IfOk result (λ table. IsSmall table) }
+{
+    let in_order = compare_rows(&second.row, &first.row) == Ordering::Greater;
+    if !in_order || row_bytes(&first.row) >= 1000 || row_bytes(&second.row) >= 1000 {
+        return Err(NoMemory);
+    }
+    two_rows(alloc, first, second)
+}
+
+/// The same; a frame that is too long for a table wants memory.
+fn checked_table(alloc: Global, first: &Numbered, second: &Numbered) -> Result<ColumnPart, NoMemory>
     requires first { first.now.number ≡ 7 }
     requires second { second.now.number ≡ 6 }
     ensures count { IfOk result (λ table. length table ≡ 2) }
     ensures within { IfOk result (λ table. All (IsWithin 6 9) table) }
     ensures small { IfOk result (λ table. IsSmall table) }
 {
-    let are_short = is_short(&first.row.stack) && is_short(&second.row.stack);
-    let in_order = compare_rows(&second.row, &first.row) == Ordering::Greater;
-    if !are_short || !in_order || row_bytes(&first.row) >= 1000 || row_bytes(&second.row) >= 1000 {
+    if !is_short(&first.row.stack) {
         return Err(NoMemory);
     }
-    PartBuilder::new(alloc)
-        .with_row(first)?
-        .with_row(second)?
-        .finish()
+    if !is_short(&second.row.stack) {
+        return Err(NoMemory);
+    }
+    table_of(alloc, first, second)
 }
 
 /// The table of both rows.
@@ -140,7 +172,7 @@ pub(crate) fn table(alloc: Global) -> Result<ColumnPart, NoMemory>
         number: 6,
         row: made_row(alloc, &OTHER)?,
     };
-    table_of(alloc, &first, &second)
+    checked_table(alloc, &first, &second)
 }
 
 /// Whether the table is written as these bytes.
