@@ -115,8 +115,8 @@ fn base_of<P: Held>(
 }
 
 impl<P: Held> Base<P> {
-    /// A base over a shelf without stragglers, for 1 to `MOST_SEATS` seats. `synced` is the greatest number
-    /// reported synced so far.
+    /// A base over a shelf without stragglers, for 1 to `MOST_SEATS` seats. `synced` is the
+    /// greatest number reported synced so far.
     pub fn make(
         alloc: Global,
         shelf: Shelf<P>,

@@ -9,6 +9,4 @@ mod compactions;
 #[cfg(test)]
 mod shelves;
 #[cfg(test)]
-mod stub;
-#[cfg(test)]
 mod thresholds;

@@ -1,11 +1,11 @@
 ghost use Rattle.std.specs.Prelude.{◌≡◌, ◌≤◌, [], IfOk};
 ghost use Rattle.fd_shelf.specs.Books.{rows_in, all_parts};
 
-use crate::stub::{Stub, loose};
 use fd_kinds::{Held, NoMemory};
 use fd_shelf::{InBlock, NotReplaced, Picked, Shelf, Span};
 use std::alloc::Global;
 use std::test::Fail;
+use stubs::{Stub, loose};
 
 #[test]
 fn a_part_waits_for_the_numbers_before_it(rt: HostRuntime) -> Result<(), Fail> {

@@ -13,8 +13,8 @@ use Rattle.fd_shelf.specs.declared.picks.InBlock.{InBlock}
 use Rattle.fd_rule.specs.Kinds.TurnReturn.{MayReturn, SameRows, SealsUpto}
 use Rattle.fd_rule.specs.Kinds.TurnTry.{with_book}
 use Rattle.fd_rule.specs.View.{View}
-use Rattle.test_table.specs.declared.stub.Stub.{Stub}
-use Rattle.test_table.specs.Stubs.{stub_meaning}
+use Rattle.stubs.specs.declared.stub.Stub.{Stub}
+use Rattle.stubs.specs.Stubs.{stub_meaning}
 
 module _ {A : Type 0} (Is : A → Type 0) where
   any_left : (xs ys : List A) → Any Is xs → Any Is (xs ++ ys)

@@ -5,7 +5,7 @@ use Rattle.fd_shelf.specs.Books.{Shelved}
 use Rattle.fd_rule.specs.Kinds.BatchLanding.{MayLand}
 use Rattle.fd_rule.specs.Tables.{Seated}
 use Rattle.fd_rule.specs.View.{View, idle, bare}
-use Rattle.test_table.specs.declared.stub.Stub.{Stub}
+use Rattle.stubs.specs.declared.stub.Stub.{Stub}
 use Rattle.fd_rule.specs.declared.slot.SlotValue.TheVariants.{Empty}
 
 -- no turn, no slot, no pin, and nothing in flight

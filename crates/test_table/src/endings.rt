@@ -3,11 +3,11 @@ ghost use Rattle.fd_rule.specs.Seats.{base_seats, base_table, pass_seats, pass_t
 ghost use Rattle.fd_rule.specs.Kinds.SeatJoin.{join_of};
 ghost use Rattle.test_table.specs.Seats.{IsResting};
 
-use crate::stub::Stub;
 use crate::sweeps::sweep;
 use crate::writes::is_ready;
 use fd_rule::{Base, Pass, Seat, join};
 use fd_shelf::Shelf;
+use stubs::Stub;
 
 /// Takes what has landed into the book, and answers one pass for both seats of a table for two.
 /// None where another seat has the turn or a lane is filled.

@@ -7,7 +7,6 @@ mod lists;
 mod pins;
 mod seals;
 mod seats;
-mod stub;
 mod sweeps;
 #[cfg(test)]
 mod tests;
@@ -19,7 +18,6 @@ pub use lists::list;
 pub use pins::{lift, limit, pin, report};
 pub use seals::seal;
 pub use seats::{Four, four_seats};
-pub use stub::{Stub, loose};
 pub use sweeps::sweep;
 pub use threads::write_both;
 pub use writes::{begin, end, write_many, write_swept};

@@ -4,8 +4,8 @@ ghost use Rattle.fd_rule.specs.Seats.{IsSameSeat, seat_view};
 ghost use Rattle.fd_rule.specs.View.{settled};
 
 use crate::seals::last_number;
-use crate::stub::Stub;
 use fd_rule::{Seat, Turn, give_turn, take_turn};
+use stubs::Stub;
 
 /// The last number of the parts up to a watermark that the seat has pinned. None where another seat
 /// has the turn, or for want of memory.

@@ -4,8 +4,8 @@ ghost use Rattle.fd_rule.specs.View.{idle, settled};
 ghost use Rattle.fd_rule.specs.Seats.{IsSameSeat, seat_count, seat_state, seat_view};
 ghost use Rattle.test_table.specs.Seats.{AtRest};
 
-use crate::stub::Stub;
 use fd_rule::{Seat, announce, arrive, load_mark, raise_floor, scan_pin, settle};
+use stubs::Stub;
 
 /// Pins the mark.
 pub fn pin(seat: &mut Seat<Stub>) -> u64

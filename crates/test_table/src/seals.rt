@@ -7,13 +7,13 @@ ghost use Rattle.fd_shelf.specs.Numbers.{Keeps};
 ghost use Rattle.fd_shelf.specs.Replacement.{HasRowsOf};
 ghost use Rattle.fd_shelf.specs.Steps.{highest};
 ghost use Rattle.test_table.specs.Seats.{AtRest};
-ghost use Rattle.test_table.specs.Stubs.{sealed_stub, stub_meaning};
+ghost use Rattle.stubs.specs.Stubs.{sealed_stub, stub_meaning};
 
 use crate::pins::lift;
-use crate::stub::Stub;
 use fd_kinds::Held;
 use fd_rule::{Seat, Turn, give_turn, take_turn};
 use fd_shelf::{InBlock, Shelf, book_laws};
+use stubs::Stub;
 
 /// The last number of parts, and 0 where there is none.
 pub(crate) fn last_number(parts: &[InBlock<Stub>]) -> u64

@@ -5,8 +5,8 @@ ghost use Rattle.fd_rule.specs.Seats.{base_seats, base_table, pass_seats, pass_t
 ghost use Rattle.fd_rule.specs.Seats.{seat_state, seat_view};
 ghost use Rattle.test_table.specs.Seats.{AtRest};
 
-use crate::stub::Stub;
 use fd_rule::{Base, Pass, Seat, split};
+use stubs::Stub;
 
 /// The seats of a table for four.
 pub struct Four<'a> {

@@ -2,9 +2,9 @@ ghost use Rattle.std.specs.Prelude.{◌≡◌, ◌≤◌, ◌<◌, ◌+◌};
 ghost use Rattle.fd_rule.specs.Seats.{IsSameSeat, seat_count, seat_state, seat_view};
 ghost use Rattle.test_table.specs.Seats.{AtRest, InHand};
 
-use crate::stub::Stub;
 use fd_rule::{Seat, Turn, clear_lane, give_turn, lane_part, load_lane, raise_mark, take_turn};
 use fd_shelf::{Shelf, book_laws, straggler_laws};
+use stubs::Stub;
 
 /// Takes the batch of one lane into the book, where it has one.
 fn gather_one(seat: &mut Seat<Stub>, shelf: &mut Shelf<Stub>, lane: u32)

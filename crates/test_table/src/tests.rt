@@ -1,10 +1,10 @@
 use crate::seats::{Four, four_seats};
-use crate::stub::Stub;
 use crate::{begin, end, end_both, limit, list, pin, report, seal, sweep, write_both, write_swept};
 use fd_kinds::Held;
 use fd_rule::{Base, Made, Seat, leave, load_synced, split};
 use fd_shelf::Shelf;
 use std::test::Fail;
+use stubs::Stub;
 
 #[test]
 fn a_batch_waits_in_the_book_for_the_number_before_it(rt: HostRuntime) -> Result<(), Fail> {

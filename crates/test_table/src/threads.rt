@@ -2,11 +2,11 @@ ghost use Rattle.std.specs.Prelude.{◌≡◌, []};
 ghost use Rattle.fd_rule.specs.Seats.{base_seats, base_table, pass_seats, pass_table, pass_view};
 ghost use Rattle.test_table.specs.Seats.{IsResting};
 
-use crate::stub::Stub;
 use crate::writes::write_many;
 use fd_rule::{Base, Pass, Seat};
 use std::sync::Wait;
 use std::thread::{Threads, join};
+use stubs::Stub;
 
 /// Sits down, writes so many empty batches, and gets up again.
 fn write_at<R: Wait>(rt: &R, base: &Base<Stub>, pass: Pass, count: u32) -> Pass

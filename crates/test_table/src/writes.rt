@@ -2,15 +2,15 @@ ghost use Rattle.std.specs.Prelude.{◌≡◌, ◌<◌, ◌^◌, true, IfSome, I
 ghost use Rattle.fd_rule.specs.Kinds.NumberDraw.{MayDraw};
 ghost use Rattle.fd_rule.specs.Seats.{IsSameSeat, seat_state, seat_view};
 ghost use Rattle.test_table.specs.Seats.{AtRest, InFlight};
-ghost use Rattle.test_table.specs.Stubs.{stub_meaning};
+ghost use Rattle.stubs.specs.Stubs.{stub_meaning};
 
-use crate::stub::{Stub, loose};
 use crate::sweeps::sweep;
 use fd_kinds::Held;
 use fd_kinds::limits::MOST_NUMBERS;
 use fd_rule::{Seat, draw, land, load_drawn, load_lane};
 use std::sync::Wait;
 use std::thread;
+use stubs::{Stub, loose};
 
 /// Whether the seat may draw: its lane is empty, and few numbers were drawn.
 pub(crate) fn is_ready(seat: &mut Seat<Stub>) -> bool

@@ -6,8 +6,8 @@ use crate::plays::DrawnLoad;
 use crate::seat::Seat;
 use fd_kinds::Held;
 
-/// The greatest number drawn. Where it is below `MOST_NUMBERS` of `fd_kinds`, the seat is cleared to draw. It takes no
-/// memory.
+/// The greatest number drawn. Where it is below `MOST_NUMBERS` of `fd_kinds`, the seat is cleared
+/// to draw. It takes no memory.
 pub fn load_drawn<P: Held>(seat: &mut Seat<P>) -> u64
     ensures me { seat_state seat.new
         ≡ (with_drawn result (seat_view seat.old), seat_slots seat.old) }

@@ -2,7 +2,7 @@ use Rattle.std.proofs.Common.{ℕ, List, ap, sym, subst, ◌∙◌, inl, refl, [
 use Rattle.fd_rule.specs.Lists.{In}
 use Rattle.fd_rule.specs.Tables.{Seated}
 use Rattle.fd_rule.specs.View.{loaded}
-use Rattle.test_table.specs.declared.stub.Stub.{Stub}
+use Rattle.stubs.specs.declared.stub.Stub.{Stub}
 use Rattle.test_table.proofs.SeatSteps.{in_last}
 use Rattle.test_table.proofs.pins.pin.Goals as goal
 

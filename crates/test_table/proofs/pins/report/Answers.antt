@@ -1,7 +1,7 @@
 use Rattle.std.proofs.Common.{sym, subst, arith}
 use Rattle.fd_rule.specs.Kinds.Announcement.{MayAnnounce}
 use Rattle.fd_rule.specs.Tables.{Seated}
-use Rattle.test_table.specs.declared.stub.Stub.{Stub}
+use Rattle.stubs.specs.declared.stub.Stub.{Stub}
 use Rattle.test_table.proofs.SeatSteps.{in_last}
 use Rattle.test_table.proofs.pins.report.Goals as goal
 

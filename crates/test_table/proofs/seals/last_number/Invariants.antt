@@ -1,6 +1,6 @@
 use Rattle.std.proofs.Common.{◌≡◌, map, drop}
 use Rattle.fd_shelf.specs.Steps.{highest, last_hi}
-use Rattle.test_table.specs.Stubs.{stub_meaning}
+use Rattle.stubs.specs.Stubs.{stub_meaning}
 use Rattle.test_table.proofs.seals.last_number.Given as goal
 
 abbrev pub invariant-loop-placed : goal.invariant-loop-placed

@@ -1,6 +1,6 @@
 use Rattle.std.proofs.Common.{ap}
 use Rattle.fd_rule.specs.Tables.{Seated}
-use Rattle.test_table.specs.declared.stub.Stub.{Stub}
+use Rattle.stubs.specs.declared.stub.Stub.{Stub}
 use Rattle.test_table.proofs.Replacements.{may_give}
 use Rattle.test_table.proofs.seals.seal.Goals as goal
 

@@ -1,6 +1,6 @@
 use Rattle.std.proofs.Common.{ap}
 use Rattle.fd_shelf.specs.Books.{Shelved}
-use Rattle.test_table.specs.Stubs.{sealed_stub}
+use Rattle.stubs.specs.Stubs.{sealed_stub}
 use Rattle.test_table.proofs.Replacements.{same_rows, sealed_over}
 use Rattle.test_table.proofs.seals.seal_run.Goals as goal
 

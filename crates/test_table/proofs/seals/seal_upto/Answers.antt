@@ -2,7 +2,7 @@ use Rattle.std.proofs.Common.{rules, ◌≡◌, ap, ◌∙◌, subst, [], map, a
 use Rattle.std.specs.Prelude.{IsPermutation}
 use Rattle.fd_shelf.specs.Books.{rows_in}
 use Rattle.fd_shelf.specs.Steps.{highest, loose_upto, lowest}
-use Rattle.test_table.specs.Stubs.{sealed_stub, stub_meaning}
+use Rattle.stubs.specs.Stubs.{sealed_stub, stub_meaning}
 use Rattle.test_table.proofs.Replacements.{first_is, none_to_sort, sealed_more}
 use Rattle.test_table.proofs.seals.seal_upto.Goals as goal
 

@@ -2,8 +2,8 @@ use Rattle.std.proofs.Common.{sym, ap, ◌∙◌, subst, ℕ}
 use Rattle.fd_rule.specs.Kinds.MarkRaise.{MayRaise, with_raised}
 use Rattle.fd_rule.specs.Kinds.TurnReturn.{MayReturn}
 use Rattle.fd_rule.specs.Tables.{Seated}
-use Rattle.test_table.specs.declared.stub.Stub.{Stub}
-use Rattle.test_table.specs.Stubs.{stub_meaning}
+use Rattle.stubs.specs.declared.stub.Stub.{Stub}
+use Rattle.stubs.specs.Stubs.{stub_meaning}
 use Rattle.test_table.proofs.SeatSteps.{may_raise, may_return}
 use Rattle.test_table.proofs.sweeps.finish.Goals as goal
 

@@ -5,8 +5,8 @@ use Rattle.fd_shelf.specs.Numbers.{IsIn}
 use Rattle.fd_rule.specs.Kinds.LaneClearance.{with_cleared}
 use Rattle.fd_rule.specs.Tables.{Seated}
 use Rattle.fd_rule.specs.declared.slot.SlotValue.TheVariants.{Empty}
-use Rattle.test_table.specs.declared.stub.Stub.{Stub}
-use Rattle.test_table.specs.Stubs.{stub_meaning}
+use Rattle.stubs.specs.declared.stub.Stub.{Stub}
+use Rattle.stubs.specs.Stubs.{stub_meaning}
 use Rattle.test_table.proofs.SeatSteps.{found_none, found_some, held_first, same_part}
 use Rattle.test_table.proofs.sweeps.gather_one.Goals as goal
 

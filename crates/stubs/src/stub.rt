@@ -1,8 +1,8 @@
-ghost use Rattle.std.specs.Prelude.{◌≡◌, ◌≤◌, [], false};
+ghost use Rattle.std.specs.Prelude.{◌≡◌, ◌≤◌, false};
 
 use fd_kinds::{Held, NoMemory};
 
-// A part without rows.
+/// A part without rows.
 #[derive(Debug, Drop)]
 pub struct Stub {
     pub lo: u64,
@@ -15,13 +15,9 @@ pub struct Stub {
 impl Held for Stub {
     ghost use Rattle.fd_kinds.specs.Parts.{IsWithin};
     ghost use Rattle.std.proofs.lemmas.List.Elements.{«All-nil»};
+    ghost use Rattle.stubs.specs.Stubs.{stub_meaning};
 
-    ghost means = { λ part. record {
-      lo = part.lo;
-      hi = part.hi;
-      sealed = part.sealed;
-      rows = [];
-    } };
+    ghost means = { stub_meaning };
 
     ghost sound = { λ part. record {
       ordered = part.ordered;
