@@ -1,8 +1,15 @@
+pub mod BatchReading
 pub mod BatchRuns
+pub mod Faults
+pub mod FrameParts
+pub mod GatheredFrames
 pub mod LogGrowth
 pub mod LogLaws
 pub mod Many
 pub mod Numbers
 pub mod Payloads
+pub mod Replaying
 pub mod Rows
 pub mod Sizes
+pub mod TransactionReading
+pub mod Utf8

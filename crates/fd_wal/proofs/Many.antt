@@ -1,14 +1,17 @@
 -- Reading many values, whatever they are.
 use Rattle.std.proofs.Common.{◌≡◌, ℕ, zero, suc, ◌+◌, ◌-◌, ◌*◌, ◌^◌, ◌<◌, ◌≤◌, false, cond, ltb, List, [], ◌∷◌, ◌++◌, length, refl, sym, ap, subst, ◌∙◌, append_assoc, arith}
-use Rattle.std.specs.Prelude.{Some, None, flat_map}
+use Rattle.std.specs.Prelude.{Some, None, flat_map, All}
 use Rattle.std.specs.List.{AllByRecursion}
 use Rattle.std.specs.Int.{w32, to_le_bytes}
 use Rattle.std.proofs.lemmas.Bool.{le-ltb}
 use Rattle.std.proofs.lemmas.Option.{same_Some}
 use Rattle.std.proofs.lemmas.List.{append-nil, length-append}
 use Rattle.std.proofs.lemmas.List.Concat.{flat_map-cons}
+use Rattle.std.proofs.lemmas.List.Elements.{recursion_from_All}
 use Rattle.fd_kinds.specs.RowSpelling.{count_bytes}
-use Rattle.fd_wal.specs.Reading.{◌>>=◌, Reading, number_at, many_at, list_at, with_front}
+use Rattle.fd_wal.specs.declared.fault.ReadFault.{ReadFault}
+use Rattle.fd_wal.specs.declared.fault.ReadFault.TheVariants.{Malformed, NoMemory}
+use Rattle.fd_wal.specs.Reading.{◌>>=◌, Reading, Fails, number_at, many_at, list_at, with_front}
 use Rattle.fd_wal.proofs.Numbers.{IsBytes, bind_some, guard_some, Takes, Takes-then, wide32, number_takes, number_again}
 
 -- ---- as a loop does
@@ -24,6 +27,36 @@ goes_on read front count i bytes x after total lt h so_far =
     let k : count - i ≡ suc (count - (i + 1)) = omega arith in
     let one : with_front front (many_at read (count - i) bytes) ≡ with_front (front ++ x ∷ []) (many_at read (count - (i + 1)) after) = rw (k, h) (regroup front x (many_at read (count - (i + 1)) after)) in
     sym one ∙ so_far
+
+pub ends : {A : Type 0} (e : ReadFault) (read : List ℕ → Reading A) (front : List A) (count i : ℕ) (bytes : List ℕ) (total : Reading (List A)) → i < count → Fails e (read bytes)
+    → with_front front (many_at read (count - i) bytes) ≡ total → Fails e total
+unfolding many_at
+ends NoMemory read front count i bytes total lt h so_far = tt
+ends Malformed read front count i bytes total lt h so_far =
+    let k : count - i ≡ suc (count - (i + 1)) = omega arith in
+    let one : with_front front (many_at read (count - i) bytes) ≡ None = rw (k, h) refl in
+    sym so_far ∙ one
+
+-- what a value that is missing or wrong means for all of them
+pub refuses : {A : Type 0} (read : List ℕ → Reading A) (P : A → Type 0) (front : List A) (count i : ℕ) (bytes : List ℕ) (total : Reading (List A)) → i < count
+    → ((x : A) (rest : List ℕ) → read bytes ≡ Some (x, rest) → P x → ⊥) → with_front front (many_at read (count - i) bytes) ≡ total
+    → (all : List A) (rest : List ℕ) → total ≡ Some (all, rest) → All P all → ⊥
+unfolding many_at
+refuses {A} read P front count i bytes total lt never so_far all rest is each =
+    let k : count - i ≡ suc (count - (i + 1)) = omega arith in
+    let same : with_front front (many_at read (suc (count - (i + 1))) bytes) ≡ Some (all, rest) = ap (λ (n : ℕ). with_front front (many_at read n bytes)) (sym k) ∙ so_far ∙ is in
+    let many : Reading (List A) = many_at read (suc (count - (i + 1))) bytes in
+    let a = bind_some many (λ x. Some (front ++ x.0, x.1)) (all, rest) same in
+    let b = bind_some (read bytes) (λ first. many_at read (count - (i + 1)) first.1 >>= λ others. Some (first.0 ∷ others.0, others.1)) a.0 a.1 in
+    let c = bind_some (many_at read (count - (i + 1)) b.0.1) (λ others. Some (b.0.0 ∷ others.0, others.1)) a.0 b.2 in
+    let made : front ++ a.0.0 ≡ all = ap (λ (y : List A × List ℕ). y.0) (same_Some (front ++ a.0.0, a.0.1) (all, rest) a.2) in
+    let inner : b.0.0 ∷ c.0.0 ≡ a.0.0 = ap (λ (y : List A × List ℕ). y.0) (same_Some (b.0.0 ∷ c.0.0, c.0.1) a.0 c.2) in
+    let whole : front ++ b.0.0 ∷ c.0.0 ≡ all = ap (λ (t : List A). front ++ t) inner ∙ made in
+    never b.0.0 b.0.1 b.1 (middle front b.0.0 c.0.0 (recursion_from_All P (front ++ b.0.0 ∷ c.0.0) (subst (λ (t : List A). All P t) (sym whole) each)))
+  where
+    middle : (front : List A) (x : A) (back : List A) → AllByRecursion P (front ++ x ∷ back) → P x
+    middle [] x back each = each.0
+    middle (y ∷ front) x back each = middle front x back each.1
 
 pub is_done : {A : Type 0} (read : List ℕ → Reading A) (front : List A) (count i : ℕ) (bytes : List ℕ) (total : Reading (List A)) → count ≤ i → with_front front (many_at read (count - i) bytes) ≡ total → total ≡ Some (front, bytes)
 unfolding many_at

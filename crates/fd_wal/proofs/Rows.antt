@@ -15,7 +15,7 @@ use Rattle.fd_kinds.specs.Labels.{are_labels}
 use Rattle.fd_kinds.specs.RowSize.{text_size, pair_size, labels_size, stack_size, row_size}
 use Rattle.fd_kinds.specs.RowSpelling.{text_spelling, pair_spelling, labels_spelling, stack_spelling, whole_spelling, row_spelling}
 use Rattle.fd_wal.specs.Frames.{IsWhole, IsTextPair, IsRow}
-use Rattle.fd_wal.specs.Reading.{◌>>=◌, Reading, whole_at, text_at, pair_at, list_at, checked_labels, labels_at, stack_at, Both, both_at, RowParts, row_parts_at, row_of, row_at, least_pair, least_text}
+use Rattle.fd_wal.specs.Reading.{◌>>=◌, Reading, whole_at, text_at, pair_at, list_at, checked_labels, labels_at, stack_at, Both, both_at, RowParts, numbers_at, row_parts_at, row_of, row_at, least_pair, least_text}
 use Rattle.fd_wal.proofs.Numbers.{IsBytes, bind_some, Takes, Takes-then, IsText, IsPair, whole_takes, whole_again, text_takes, text_again, pair_takes, pair_again}
 use Rattle.fd_wal.proofs.Many.{list_take, list_again}
 
@@ -49,15 +49,22 @@ pub checked_again : (labels : Labels) → checked_labels labels.pairs (are_label
 checked_again labels = checked_is labels.pairs (are_labels labels.pairs) refl labels refl
 
 -- what a call answers that checks pairs
-pub checked_some : (pairs : List Pair) (labels : Labels) → labels.pairs ≡ pairs → checked_labels pairs (are_labels pairs) refl ≡ Some labels
+checked_some : (pairs : List Pair) (labels : Labels) → labels.pairs ≡ pairs → checked_labels pairs (are_labels pairs) refl ≡ Some labels
 checked_some pairs labels same = checked_is pairs (are_labels pairs) refl labels same
 
 checked_not : (pairs : List Pair) (b : Bool) (e : are_labels pairs ≡ b) → b ≡ false → checked_labels pairs b e ≡ None
 checked_not pairs true e out = absurd (cc)
 checked_not pairs false e out = refl
 
-pub checked_none : (pairs : List Pair) → are_labels pairs ≡ false → checked_labels pairs (are_labels pairs) refl ≡ None
+-- the same where the pairs are shared first
+pub shared_some : (pairs given : List Pair) (labels : Labels) → labels.pairs ≡ given → given ≡ pairs → checked_labels pairs (are_labels pairs) refl ≡ Some labels
+shared_some pairs given labels same shared = checked_some pairs labels (same ∙ shared)
+
+checked_none : (pairs : List Pair) → are_labels pairs ≡ false → checked_labels pairs (are_labels pairs) refl ≡ None
 checked_none pairs out = checked_not pairs (are_labels pairs) refl out
+
+pub shared_none : (pairs given : List Pair) → are_labels given ≡ false → given ≡ pairs → checked_labels pairs (are_labels pairs) refl ≡ None
+shared_none pairs given out shared = checked_none pairs (ap are_labels (sym shared) ∙ out)
 
 least_of_pair : (p : Pair) → least_pair ≤ length (pair_spelling p)
 least_of_pair p = omega (arith, length-append (text_spelling p.name) (text_spelling p.value))
@@ -145,6 +152,13 @@ labels_codec = record { takes = labels_takes; again = labels_again }
 stack_codec : IsCodec (List (List ℕ)) stack_at stack_spelling FramesFit
 stack_codec = record { takes = stack_takes; again = stack_again }
 
+abbrev IsThree : Both ℤ (Both ℤ ℤ) → Type 0
+IsThree = AreBoth IsWhole (AreBoth IsWhole IsWhole)
+
+numbers_codec : IsCodec (Both ℤ (Both ℤ ℤ)) numbers_at (λ x. whole_spelling x.first ++ (whole_spelling x.second.first ++ whole_spelling x.second.second)) IsThree
+unfolding numbers_at
+numbers_codec = both_codec whole_codec (both_codec whole_codec whole_codec)
+
 abbrev parts_spelling : RowParts → List ℕ
 parts_spelling p = text_spelling p.first ++ (text_spelling p.second.first ++ (text_spelling p.second.second.first ++ (text_spelling p.second.second.second.first ++ (text_spelling p.second.second.second.second.first ++ (labels_spelling p.second.second.second.second.second.first.pairs ++ (whole_spelling p.second.second.second.second.second.second.first ++ (stack_spelling p.second.second.second.second.second.second.second.first ++ (labels_spelling p.second.second.second.second.second.second.second.second.first.pairs ++ (whole_spelling p.second.second.second.second.second.second.second.second.second.first ++ (whole_spelling p.second.second.second.second.second.second.second.second.second.second.first ++ (whole_spelling p.second.second.second.second.second.second.second.second.second.second.second)))))))))))
 
@@ -152,7 +166,7 @@ abbrev PartsFit : RowParts → Type 0
 PartsFit = AreBoth IsText (AreBoth IsText (AreBoth IsText (AreBoth IsText (AreBoth IsText (AreBoth (λ labels. PairsFit labels.pairs) (AreBoth IsWhole (AreBoth FramesFit (AreBoth (λ labels. PairsFit labels.pairs) (AreBoth IsWhole (AreBoth IsWhole IsWhole))))))))))
 
 parts_codec : IsCodec RowParts row_parts_at parts_spelling PartsFit
-parts_codec = both_codec text_codec (both_codec text_codec (both_codec text_codec (both_codec text_codec (both_codec text_codec (both_codec labels_codec (both_codec whole_codec (both_codec stack_codec (both_codec labels_codec (both_codec whole_codec (both_codec whole_codec whole_codec))))))))))
+parts_codec = both_codec text_codec (both_codec text_codec (both_codec text_codec (both_codec text_codec (both_codec text_codec (both_codec labels_codec (both_codec whole_codec (both_codec stack_codec (both_codec labels_codec numbers_codec))))))))
 
 abbrev parts_of : Row → RowParts
 parts_of r = record { first = r.name; second = record { first = r.sample_type; second = record { first = r.sample_unit; second = record { first = r.period_type; second = record { first = r.period_unit; second = record { first = r.labels; second = record { first = r.timestamp; second = record { first = r.stack; second = record { first = r.pprof_labels; second = record { first = r.period; second = record { first = r.duration; second = r.value } } } } } } } } } } }

@@ -1,4 +1,6 @@
 pub mod Frames
+pub mod Gathering
 pub mod Logs
 pub mod Reading
+pub mod Replays
 pub mod Runs

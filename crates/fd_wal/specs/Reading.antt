@@ -1,12 +1,14 @@
 -- Reading from the front of bytes, value by value. A reading is a value and the bytes behind it, and none where the
 -- bytes begin with no value of the kind.
-use Rattle.std.specs.Prelude.{◌≡◌, ℕ, zero, suc, ◌*◌, ℤ, Bool, true, false, List, [], ◌∷◌, ◌++◌, length, take, drop, Option, Some, None, nat_lt, ◌==◌, if◌then◌else◌, refl}
+use Rattle.std.specs.Prelude.{◌≡◌, ℕ, zero, suc, ◌+◌, ◌*◌, ◌≤◌, ◌<◌, ℤ, Bool, true, false, List, [], ◌∷◌, ◌++◌, length, take, drop, Option, Some, None, Result, Ok, Err, nat_lt, ◌==◌, if◌then◌else◌, refl}
 use Rattle.std.specs.Int.{Width, w32, w64, byte_len, from_le_bytes, cast_signed}
 use Rattle.std.specs.Str.{is_utf8}
 use Rattle.fd_kinds.specs.declared.pair.Pair.{Pair}
 use Rattle.fd_kinds.specs.declared.labels.Labels.{Labels}
 use Rattle.fd_kinds.specs.declared.row.Row.{Row}
 use Rattle.fd_kinds.specs.Labels.{are_labels}
+use Rattle.fd_wal.specs.declared.fault.ReadFault.{ReadFault}
+use Rattle.fd_wal.specs.declared.fault.ReadFault.TheVariants.{Malformed, NoMemory}
 use Rattle.fd_wal.specs.Frames.{Frame, Transactions}
 
 infixl 10 ◌>>=◌
@@ -92,12 +94,16 @@ both_at read next bytes =
     next a.1 >>= λ b.
     Some (record { first = a.0; second = b.0 }, b.1)
 
+-- the three numbers that a row ends with
+unfoldable pub numbers_at : List ℕ → Reading (Both ℤ (Both ℤ ℤ))
+numbers_at bytes = both_at whole_at (both_at whole_at whole_at) bytes
+
 -- the fields of a row, one behind the other
 abbrev pub RowParts : Type 0
 RowParts = Both (List ℕ) (Both (List ℕ) (Both (List ℕ) (Both (List ℕ) (Both (List ℕ) (Both Labels (Both ℤ (Both (List (List ℕ)) (Both Labels (Both ℤ (Both ℤ ℤ))))))))))
 
 abbrev pub row_parts_at : List ℕ → Reading RowParts
-row_parts_at = both_at text_at (both_at text_at (both_at text_at (both_at text_at (both_at text_at (both_at labels_at (both_at whole_at (both_at stack_at (both_at labels_at (both_at whole_at (both_at whole_at whole_at))))))))))
+row_parts_at = both_at text_at (both_at text_at (both_at text_at (both_at text_at (both_at text_at (both_at labels_at (both_at whole_at (both_at stack_at (both_at labels_at numbers_at))))))))
 
 abbrev pub row_of : RowParts → Row
 row_of p = record {
@@ -136,3 +142,37 @@ ended read = read >>= λ x. if length x.1 == 0 then Some x.0 else None
 -- what is read behind others
 abbrev pub with_front : {A : Type 0} → List A → Reading (List A) → Reading (List A)
 with_front front read = read >>= λ x. Some (front ++ x.0, x.1)
+
+-- ---- what calls answer
+
+-- the reading is none, unless memory ran out
+abbrev pub Fails : {Y : Type 0} → ReadFault → Option Y → Type 0
+Fails NoMemory read = Unit {0}
+Fails Malformed read = read ≡ None
+
+-- what a call answers and leaves is what reading gives, unless memory ran out
+abbrev pub Reads : {X : Type 0} → Result X ReadFault → List ℕ → Reading X → Type 0
+Reads (Ok x) rest read = read ≡ Some (x, rest)
+Reads (Err e) rest read = Fails e read
+
+-- what a call answers is this, unless memory ran out
+abbrev pub Finds : {X : Type 0} → Result X ReadFault → Option X → Type 0
+Finds (Ok x) found = found ≡ Some x
+Finds (Err e) found = Fails e found
+
+-- ---- frames
+
+-- the length of the payload that a frame names
+abbrev pub payload_length : List ℕ → ℕ
+payload_length bytes = from_le_bytes w32 (take 4 bytes)
+
+-- the digest and the payload of a frame, and the bytes behind it
+pub record HasParts (bytes digest payload behind : List ℕ) : Type 0 where
+  pub long : 36 + payload_length bytes < length bytes
+  pub digest_is : digest ≡ take 32 (drop 4 bytes)
+  pub payload_is : payload ≡ take (payload_length bytes) (drop 32 (drop 4 bytes))
+  pub behind_is : behind ≡ drop (payload_length bytes) (drop 32 (drop 4 bytes))
+
+-- too short for a frame and a gate behind it
+abbrev pub IsCut : List ℕ → Type 0
+IsCut bytes = length bytes ≤ 36 + payload_length bytes

@@ -7,8 +7,9 @@ use crate::row_writer::{put_count, put_row};
 use fd_kinds::{Batch, Bytes, NoMemory, row_bytes, row_spelling_laws};
 use std::alloc::Global;
 
-/// The bytes of the rows of a batch, and 2^64 - 1 where they are more.
-pub(crate) fn batch_bytes(batch: &Batch) -> u64
+/// The bytes of the rows of a batch, and 2^64 - 1 where they are more. A frame takes only batches
+/// of at most `MOST_BATCH_BYTES` of them.
+pub fn batch_bytes(batch: &Batch) -> u64
     ensures { result ≡ min (rows_size batch.now.rows) (2 ^ 64 - 1) }
 {
     let mut size = 0u64;

@@ -16,7 +16,7 @@ use sha2::{Digest, Sha256};
 use std::alloc::Global;
 
 /// The bytes of the length and of the digest, which stand before a payload.
-const HEAD_BYTES: usize = 36;
+pub(crate) const HEAD_BYTES: usize = 36;
 
 /// The bytes of a payload before its transactions.
 const TRANSACTIONS_HEAD_BYTES: u64 = 14;

@@ -15,7 +15,8 @@
 //! row          five texts: name, sample type, sample unit, period type, period unit
 //!              labels, timestamp, stack, labels of the sample, period, duration, value
 //!   text         4 bytes of length, and the bytes, in UTF-8
-//!   labels       4 bytes of count, and each name and value as a text; the names rise
+//!   labels       4 bytes of count, and each name and value as a text; the names rise, and no
+//!                value is empty
 //!   stack        4 bytes of count, and each frame as a text, the leaf first
 //!   number       8 bytes, in two's complement
 //! ```
@@ -26,12 +27,20 @@
 #![tactic(auto)]
 
 mod batch_writer;
+mod cursor;
+mod fault;
+mod frame_reader;
 mod frame_writer;
 mod laws;
 pub mod limits;
+mod log_reader;
+mod row_reader;
 mod row_writer;
 mod spelling;
+mod transactions_reader;
 
-pub use batch_writer::transaction;
+pub use batch_writer::{batch_bytes, transaction};
+pub use fault::ReplayFault;
 pub use frame_writer::{rotation, spelled_transactions, transactions};
 pub use laws::{log_growth, log_or_damage, one_damage, one_log};
+pub use log_reader::{Replayed, replay};
