@@ -1,0 +1,4 @@
+pub mod Gathered
+pub mod Replaced
+pub mod SweptLanes
+pub mod TurnSteps

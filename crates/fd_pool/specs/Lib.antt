@@ -1,0 +1,10 @@
+pub mod Finishes
+pub mod Gathers
+pub mod Kept
+pub mod Lists
+pub mod Pools
+pub mod Starts
+pub mod Swaps
+pub mod Sweeps
+pub mod Turns
+pub mod Writes

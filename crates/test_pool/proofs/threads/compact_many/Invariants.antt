@@ -1,0 +1,6 @@
+use Rattle.fd_rule.specs.Seats.{IsSameSeat}
+use Rattle.test_pool.specs.Rests.{AtRest}
+use Rattle.test_pool.proofs.threads.compact_many.Given as goal
+
+abbrev pub invariant-loop : goal.invariant-loop
+invariant-loop g l = AtRest l.seat.inner.me × IsSameSeat l.fn.seat l.seat
