@@ -1,0 +1,4 @@
+pub mod Draws
+pub mod Fields
+pub mod Profile
+pub mod Body
