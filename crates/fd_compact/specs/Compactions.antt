@@ -1,5 +1,6 @@
 -- What compaction answers, and what it makes of a shelf.
 use Rattle.std.specs.Prelude.{◌≡◌, ℕ, ◌≤◌, ◌<◌, List, length, filter, Option, Some, None}
+use Rattle.fd_kinds.specs.declared.limits.TheConstants.{MOST_LOOSE_PARTS}
 use Rattle.fd_kinds.specs.Parts.{PartMeaning}
 use Rattle.fd_shelf.specs.Books.{Shelved, rows_in}
 use Rattle.fd_shelf.specs.Steps.{lowest, highest, is_loose}
@@ -33,7 +34,7 @@ Compacts parts old (Changed at) new = ⊥
 abbrev pub loose_parts : Shelved → List PartMeaning
 loose_parts shelf = filter is_loose shelf.book.active
 
--- fewer than sixteen stay as they are, and else all are compacted
+-- few stay as they are, and else all are compacted
 abbrev pub CompactsFull : Shelved → Option Compaction → Shelved → Type 0
-CompactsFull old None new = (length (loose_parts old) < 16) × (new ≡ old)
-CompactsFull old (Some done) new = (16 ≤ length (loose_parts old)) × Compacts (loose_parts old) old done new
+CompactsFull old None new = (length (loose_parts old) < MOST_LOOSE_PARTS) × (new ≡ old)
+CompactsFull old (Some done) new = (MOST_LOOSE_PARTS ≤ length (loose_parts old)) × Compacts (loose_parts old) old done new

@@ -1,4 +1,5 @@
 ghost use Rattle.std.specs.Prelude.{◌≡◌, ℕ, ◌≤◌, ◌<◌, length, map, IfOk, OnOk, OnErr, Ok, None};
+ghost use Rattle.fd_kinds.specs.declared.limits.TheConstants.{MOST_LOOSE_PARTS};
 ghost use Rattle.fd_part.specs.Parts.{part_meaning};
 ghost use Rattle.fd_shelf.specs.Books.{IsSealed, all_parts};
 ghost use Rattle.fd_shelf.specs.Histories.{hist};
@@ -9,14 +10,12 @@ ghost use Rattle.fd_compact.specs.Compactions.{Compacts, CompactsFull, loose_par
 use crate::Compaction;
 use crate::runs::{SealedRun, sealed_run};
 use fd_kinds::NoMemory;
+use fd_kinds::limits::MOST_LOOSE_PARTS;
 use fd_part::Part;
 use fd_shelf::{NotReplaced, Picked, Shelf};
 
 /// Fewer parts are not compacted.
 const FEWEST: usize = 2;
-
-/// Loose parts are compacted where they are so many or more.
-const FULL: u64 = 16;
 
 /// Puts a sealed part in place of the parts of its range, against which no number stands.
 fn put(shelf: &mut Shelf<Part>, run: SealedRun) -> Compaction
@@ -81,12 +80,12 @@ pub fn compact_shelf(shelf: &mut Shelf<Part>, limit: u64) -> Result<Compaction, 
     compact_picked(shelf, limit, &picked)
 }
 
-/// Compacts all loose parts of the active block where they are 16 or more.
+/// Compacts all loose parts of the active block where they are `MOST_LOOSE_PARTS` or more.
 pub fn compact_full(shelf: &mut Shelf<Part>) -> Result<Option<Compaction>, NoMemory>
-    // Exactly fewer than 16 parts stay, which takes no memory; else all are compacted.
+    // Exactly fewer parts stay, which takes no memory; else all are compacted.
     ensures compacts { IfOk result (λ done. CompactsFull shelf.old done shelf.new) }
-    ensures few { length (loose_parts shelf.old) < 16 → result ≡ Ok None }
-    ensures fewer { OnOk result (length (loose_parts shelf.new) < 16) }
+    ensures few { length (loose_parts shelf.old) < MOST_LOOSE_PARTS → result ≡ Ok None }
+    ensures fewer { OnOk result (length (loose_parts shelf.new) < MOST_LOOSE_PARTS) }
     ensures unchanged { OnErr result (shelf.new ≡ shelf.old) }
 
     // No batch is changed, and all else stays.
@@ -96,7 +95,7 @@ pub fn compact_full(shelf: &mut Shelf<Part>) -> Result<Option<Compaction>, NoMem
     ensures stragglers { shelf.new.book.stragglers ≡ shelf.old.book.stragglers }
     ensures spare { shelf.new.spare ≡ shelf.old.spare }
 {
-    if shelf.loose() < FULL {
+    if shelf.loose() < MOST_LOOSE_PARTS {
         return Ok(None);
     }
     let limit = shelf.mark();

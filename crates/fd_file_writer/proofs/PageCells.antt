@@ -8,7 +8,8 @@ use Rattle.fd_column.specs.Cells.{Column}
 use Rattle.fd_pages.specs.declared.cell.Cell.{Cell}
 use Rattle.fd_pages.specs.declared.cell.CellKind.{CellKind}
 use Rattle.fd_pages.specs.Columns.{IsOfColumn, plain_values}
-use Rattle.fd_pages.specs.Pages.{IsBody, AddsPage, max_rows}
+use Rattle.fd_pages.specs.Pages.{IsBody, AddsPage}
+use Rattle.fd_pages.specs.declared.cell.TheConstants.{MAX_ROWS}
 use Rattle.fd_table_file.specs.Columns.{kind_of, is_required, cells_of}
 use Rattle.fd_table_file.specs.Chunks.{AddsPageOf}
 use Rattle.fd_table_file.specs.Files.{IsSmall}
@@ -48,8 +49,8 @@ part_column kinds rows c from count cells kind required k r is =
     (subst (λ (xs : List Cell). All (IsOfColumn (kind_of c) (is_required c)) xs) (sym whole) here))
 
 pub part_small : (rows : List Numbered) (c : Column) (from count : ℕ) (cells : List Cell) (required : Bool)
-    → ((required : Bool) (cells : List Cell) (body : List ℕ) → length cells ≤ max_rows → IsBody required cells body → length body ≤ length (plain_values cells) + 3004)
-    → count ≤ max_rows → IsSmall rows → IsPart rows c from count cells
+    → ((required : Bool) (cells : List Cell) (body : List ℕ) → length cells ≤ MAX_ROWS → IsBody required cells body → length body ≤ length (plain_values cells) + 3004)
+    → count ≤ MAX_ROWS → IsSmall rows → IsPart rows c from count cells
     → (body : List ℕ) → IsBody required (slice_range cells 0 (0 + count)) body → length body < 2 ^ 31
 part_small rows c from count cells required levels few small is body spelled =
     let whole : slice_range cells 0 (0 + count) ≡ slice_range (cells_of c rows) from (from + count) = part_whole rows c from count cells is in

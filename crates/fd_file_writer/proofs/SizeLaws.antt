@@ -2,6 +2,7 @@
 use Rattle.std.proofs.Common.{◌≡◌, ℕ, zero, suc, ◌+◌, ◌-◌, ◌<◌, ◌≤◌, ◌^◌, Bool, true, false, List, [], ◌∷◌, length, take, drop, sum_by, slice_range, refl, arith, length-append}
 use Rattle.std.specs.Ordering.{is_eq}
 use Rattle.std.proofs.lemmas.List.Sums.{sum_by-cons}
+use Rattle.fd_kinds.specs.declared.limits.TheConstants.{BLOCK_BYTES_LIMIT}
 use Rattle.fd_kinds.specs.declared.pair.Pair.{Pair}
 use Rattle.fd_kinds.specs.declared.row.Numbered.{Numbered}
 use Rattle.fd_kinds.specs.LabelMaps.{value_of}
@@ -70,7 +71,7 @@ part_short a b cells = omega (arith, front_short (b - a) (drop a cells), back_sh
 
 -- a page's body fits its header
 pub body_small : (c : Column) (rows : List Numbered) (a b : ℕ) (body : List ℕ)
-    → sum_by (λ n. row_size n.row) rows < 2 ^ 29 → length body ≤ length (plain_values (slice_range (cells_of c rows) a b)) + 3004 → length body < 2 ^ 31
+    → sum_by (λ n. row_size n.row) rows < BLOCK_BYTES_LIMIT → length body ≤ length (plain_values (slice_range (cells_of c rows) a b)) + 3004 → length body < 2 ^ 31
 body_small c rows a b body small short =
     omega (arith, small, short, part_short a b (cells_of c rows), column_short c rows)
 

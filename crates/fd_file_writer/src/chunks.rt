@@ -1,6 +1,6 @@
 ghost use Rattle.std.specs.Prelude.{◌≡◌, ◌+◌, ◌-◌, ◌<◌, ◌≤◌, length, IfOk, OnOk, slice_range};
 ghost use Rattle.fd_column.specs.Cells.{columns_of};
-ghost use Rattle.fd_pages.specs.Pages.{max_rows};
+ghost use Rattle.fd_pages.specs.declared.cell.TheConstants.{MAX_ROWS};
 ghost use Rattle.fd_footer.specs.declared.footer.Pages.TheVariants.{Plain};
 ghost use Rattle.fd_table_file.specs.Columns.{column_count, column_at};
 ghost use Rattle.fd_table_file.specs.Chunks.{AddsPageOf, AddsPagesOf};
@@ -24,7 +24,7 @@ fn add_page(
 ) -> Result<(), NoMemory>
     requires column { column < column_count table.now }
     requires some { 0 < count }
-    requires few { count ≤ max_rows }
+    requires few { count ≤ MAX_ROWS }
     requires within { from + count ≤ length table.now }
     requires small { IsSmall table.now }
     ensures { OnOk result

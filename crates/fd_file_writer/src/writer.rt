@@ -37,7 +37,7 @@ fn are_few(bytes: &[u8])
 }
 
 /// The file of a table whose numbers lie from `lo` to `hi`, with plain pages (`IsFileOf`). The rows
-/// have fewer than 2^29 bytes by `fd_kinds::row_bytes`. A footer of 2^32 bytes wants memory.
+/// have fewer than `BLOCK_BYTES_LIMIT` bytes by `fd_kinds::row_bytes`. A footer of 2^32 bytes wants memory.
 pub fn write_file(table: &ColumnPart, lo: u64, hi: u64) -> Result<Bytes, NoMemory>
     requires range { lo ≤ hi }
     requires below { hi < 2 ^ 63 }

@@ -9,3 +9,7 @@ pub const MOST_NUMBERS: u64 = 1 << 62;
 
 /// So many loose parts of the active block are compacted into one sealed part.
 pub const MOST_LOOSE_PARTS: u64 = 16;
+
+/// The rows of a block, by their spelling in the log, have fewer bytes than so many, so that each
+/// size in the block's file fits 32 bits.
+pub const BLOCK_BYTES_LIMIT: u64 = 1 << 29;

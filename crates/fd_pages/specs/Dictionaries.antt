@@ -11,7 +11,8 @@ use Rattle.fd_pages.specs.declared.cell.CellKind.TheVariants.{Bytes as BytesKind
 use Rattle.fd_pages.specs.declared.cell.Cell.{Cell}
 use Rattle.fd_pages.specs.declared.cell.Cell.TheVariants.{Absent, Whole, Bytes}
 use Rattle.fd_pages.specs.Columns.{IsOfColumn, sized, level}
-use Rattle.fd_pages.specs.Pages.{max_rows, plain_encoding, page_header_in}
+use Rattle.fd_pages.specs.Pages.{plain_encoding, page_header_in}
+use Rattle.fd_pages.specs.declared.cell.TheConstants.{MAX_ROWS}
 
 -- The numbers of parquet.thrift: PageType DICTIONARY_PAGE, and Encoding RLE_DICTIONARY.
 abbrev pub dictionary_page : ℕ
@@ -92,7 +93,7 @@ IsCodeBody false texts cells body =
 -- the bytes are the one page of these cells of a column with the indexes of their texts
 pub record IsCodePage (required : Bool) (texts : List (List ℕ)) (cells : List Cell) (page : List ℕ) : Type 0 where
   pub some : 0 < length cells
-  pub few : length cells ≤ max_rows
+  pub few : length cells ≤ MAX_ROWS
   pub column : All (IsOfColumn BytesKind required) cells
   pub body : List ℕ
   pub spelled : IsCodeBody required texts cells body

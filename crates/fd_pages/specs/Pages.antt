@@ -3,15 +3,12 @@ use Rattle.std.specs.Prelude.{◌≡◌, ℕ, ◌<◌, ◌≤◌, ◌^◌, pos, 
 use Rattle.fd_thrift.specs.Values.{Value, whole32, struct, no_fields, field}
 use Rattle.fd_thrift.specs.Format.{spelling}
 use Rattle.fd_hybrid.specs.Format.{IsSpelling}
+use Rattle.fd_pages.specs.declared.cell.TheConstants.{MAX_ROWS}
 use Rattle.fd_pages.specs.declared.cell.CellKind.{CellKind}
 use Rattle.fd_pages.specs.declared.cell.Cell.{Cell}
 use Rattle.fd_pages.specs.declared.fault.PageFault.{PageFault}
 use Rattle.fd_pages.specs.declared.fault.PageFault.TheVariants.{NoMemory}
 use Rattle.fd_pages.specs.Columns.{IsOfColumn, Fits, sized, plain_values, level}
-
--- how many rows a page has at most
-abbrev pub max_rows : ℕ
-max_rows = 1000
 
 -- The numbers of parquet.thrift: PageType DATA_PAGE, and Encoding PLAIN and RLE.
 abbrev pub data_page : ℕ
@@ -61,7 +58,7 @@ IsBody false cells body = (runs : List ℕ) × IsSpelling 1 (map level cells) ru
 -- the bytes are the one page of these cells of a column
 pub record IsPage (kind : CellKind) (required : Bool) (cells : List Cell) (page : List ℕ) : Type 0 where
   pub some : 0 < length cells
-  pub few : length cells ≤ max_rows
+  pub few : length cells ≤ MAX_ROWS
   pub column : All (IsOfColumn kind required) cells
   pub fit : All Fits cells
   pub body : List ℕ

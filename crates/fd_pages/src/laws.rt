@@ -3,7 +3,8 @@ ghost use Rattle.fd_pages.specs.declared.cell.CellKind.{CellKind as Kind};
 ghost use Rattle.fd_pages.specs.declared.cell.Cell.{Cell};
 ghost use Rattle.fd_pages.specs.declared.cell.Cell.TheVariants.{Bytes};
 ghost use Rattle.fd_pages.specs.Columns.{plain_values};
-ghost use Rattle.fd_pages.specs.Pages.{max_rows, IsBody, IsPage};
+ghost use Rattle.fd_pages.specs.Pages.{IsBody, IsPage};
+ghost use Rattle.fd_pages.specs.declared.cell.TheConstants.{MAX_ROWS};
 ghost use Rattle.fd_pages.specs.Dictionaries.{AreRising, IsDictionary, IsCodePage};
 
 use fd_hybrid::one_reading;
@@ -22,7 +23,7 @@ pub fn one_page()
 /// knows that a body has fewer than 2^31.
 pub fn levels_are_short()
     ensures { (required : Bool) (cells : List Cell) (body : List ℕ)
-        → length cells ≤ max_rows → IsBody required cells body
+        → length cells ≤ MAX_ROWS → IsBody required cells body
         → length body ≤ length (plain_values cells) + 3004 }
 {}
 

@@ -1,6 +1,7 @@
 ghost use Rattle.std.specs.Prelude.{◌≡◌, ◌++◌, ◌+◌, ◌<◌, ◌≤◌, ◌^◌, ℕ, List, length, slice_range, All, true, false, IfOk, OnOk, OnErr};
 ghost use Rattle.fd_pages.specs.Columns.{IsOfColumn, Fits};
-ghost use Rattle.fd_pages.specs.Pages.{max_rows, IsBody, IsPage, AddsPage};
+ghost use Rattle.fd_pages.specs.Pages.{IsBody, IsPage, AddsPage};
+ghost use Rattle.fd_pages.specs.declared.cell.TheConstants.{MAX_ROWS};
 
 use crate::header::header;
 use crate::levels::level_runs;
@@ -49,7 +50,7 @@ fn body(alloc: Global, required: bool, cells: &[Cell]) -> Result<Bytes, NoMemory
 /// The page of cells.
 fn page(alloc: Global, kind: CellKind, required: bool, cells: &[Cell]) -> Result<Bytes, NoMemory>
     requires some { 0 < length cells.now }
-    requires few { length cells.now ≤ max_rows }
+    requires few { length cells.now ≤ MAX_ROWS }
     requires column { All (IsOfColumn kind required) cells.now }
     requires small { (body : List ℕ) → IsBody required cells.now body → length body < 2 ^ 31 }
     ensures { IfOk result (IsPage kind required cells.now) }
@@ -65,7 +66,7 @@ fn page(alloc: Global, kind: CellKind, required: bool, cells: &[Cell]) -> Result
 /// fewer than 2^31 bytes. Where memory is wanting, `out` stays as it was.
 pub fn write_page(cells: &Cells, from: usize, count: usize, out: &mut Bytes) -> Result<(), NoMemory>
     requires some { 0 < count }
-    requires few { count ≤ max_rows }
+    requires few { count ≤ MAX_ROWS }
     requires within { from + count ≤ length cells.now.cells }
     requires column { All (IsOfColumn cells.now.kind cells.now.required)
         (slice_range cells.now.cells from (from + count)) }

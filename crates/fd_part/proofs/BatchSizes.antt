@@ -12,7 +12,8 @@ use Rattle.fd_kinds.specs.declared.row.Numbered.{Numbered}
 use Rattle.fd_kinds.specs.RowSize.{row_size}
 use Rattle.fd_kinds.specs.Parts.{with_number}
 use Rattle.fd_kinds.proofs.PartLaws.{sum_by_with_number}
-use Rattle.fd_shelf.specs.Books.{MOST_BATCH, has_number}
+use Rattle.fd_shelf.specs.Books.{has_number}
+use Rattle.fd_kinds.specs.declared.limits.TheConstants.{MOST_BATCH_BYTES}
 use Rattle.fd_part.specs.Sizes.{bytes_of, bytes_at, AreSmallBatches, HasLargeBatch, AreSizes}
 
 bytes_append : (number : ℕ) (xs ys : List Numbered) → bytes_at number (xs ++ ys) ≡ bytes_at number xs + bytes_at number ys
@@ -43,9 +44,9 @@ bytes_more number at rows r there =
 
 size_by : (rows more : List Numbered) (r : Numbered) (number sum : ℕ) (old : Option ℕ) (before : ℕ) (b : Bool) → (r.number == number) ≡ b
     → bytes_at number more ≡ bytes_at number rows + (if b then row_size r.row else 0)
-    → unwrap_or old 0 ≡ bytes_at number rows → bytes_at number rows ≤ MOST_BATCH → (r.number ≡ number → before ≡ unwrap_or old 0)
-    → sum ≡ min (before + min (row_size r.row) (2 ^ 64 - 1)) (2 ^ 64 - 1) → sum ≤ MOST_BATCH
-    → (unwrap_or (cond b (Some sum) old) 0 ≡ bytes_at number more) × (bytes_at number more ≤ MOST_BATCH)
+    → unwrap_or old 0 ≡ bytes_at number rows → bytes_at number rows ≤ MOST_BATCH_BYTES → (r.number ≡ number → before ≡ unwrap_or old 0)
+    → sum ≡ min (before + min (row_size r.row) (2 ^ 64 - 1)) (2 ^ 64 - 1) → sum ≤ MOST_BATCH_BYTES
+    → (unwrap_or (cond b (Some sum) old) 0 ≡ bytes_at number more) × (bytes_at number more ≤ MOST_BATCH_BYTES)
 size_by rows more r number sum old before true is whole counted small same is_sum fits =
     let here : r.number ≡ number = grind (arith, is) in
     let was = same here in
@@ -55,7 +56,7 @@ size_by rows more r number sum old before false is whole counted small same is_s
 -- The sizes of the rows up to a place, and of the row there, where its number's are few enough.
 pub sizes_more : (old new : BTreeMap ℕ ℕ) (rows : List Numbered) (at : ℕ) (r : Numbered) (sum : ℕ) → slice_get rows at ≡ Some r → AreSizes old (take at rows)
     → ((q : ℕ) → get nat_cmp new q ≡ cond (is_at (nat_cmp r.number) q) (Some sum) (get nat_cmp old q))
-    → sum ≡ min (unwrap_or (get nat_cmp old r.number) 0 + min (row_size r.row) (2 ^ 64 - 1)) (2 ^ 64 - 1) → sum ≤ MOST_BATCH
+    → sum ≡ min (unwrap_or (get nat_cmp old r.number) 0 + min (row_size r.row) (2 ^ 64 - 1)) (2 ^ 64 - 1) → sum ≤ MOST_BATCH_BYTES
     → AreSizes new (take (at + 1) rows)
 sizes_more old new rows at r sum there sizes puts is_sum fits number =
     let is = size_by (take at rows) (take (at + 1) rows) r number sum (get nat_cmp old number) (unwrap_or (get nat_cmp old r.number) 0) (r.number == number) refl
@@ -67,7 +68,7 @@ sizes_more old new rows at r sum there sizes puts is_sum fits number =
 
 -- The rows of a number have too many bytes, where those up to a place and the one there have.
 pub large_at : (old : BTreeMap ℕ ℕ) (rows : List Numbered) (at : ℕ) (r : Numbered) (sum : ℕ) → slice_get rows at ≡ Some r → AreSizes old (take at rows)
-    → sum ≡ min (unwrap_or (get nat_cmp old r.number) 0 + min (row_size r.row) (2 ^ 64 - 1)) (2 ^ 64 - 1) → MOST_BATCH < sum
+    → sum ≡ min (unwrap_or (get nat_cmp old r.number) 0 + min (row_size r.row) (2 ^ 64 - 1)) (2 ^ 64 - 1) → MOST_BATCH_BYTES < sum
     → HasLargeBatch rows
 large_at old rows at r sum there sizes is_sum large =
     let own : (r.number == r.number) ≡ true = grind arith in
@@ -100,11 +101,11 @@ own_rows number (r ∷ rows) =
     ∙ ap (λ rest. numbered ∷ rest) (own_rows number rows)
 
 -- A batch with few bytes is a small one under its number ..
-loose_small : (number : ℕ) (rows : List Row) → bytes_of rows ≤ MOST_BATCH → AreSmallBatches (with_number number rows)
+loose_small : (number : ℕ) (rows : List Row) → bytes_of rows ≤ MOST_BATCH_BYTES → AreSmallBatches (with_number number rows)
 loose_small number rows few other = let below = all_small_by number rows other (number == other) refl in omega (arith, below, few)
 
 -- .. and one with more is not.
-loose_large : (number : ℕ) (rows : List Row) → MOST_BATCH < bytes_of rows → HasLargeBatch (with_number number rows)
+loose_large : (number : ℕ) (rows : List Row) → MOST_BATCH_BYTES < bytes_of rows → HasLargeBatch (with_number number rows)
 loose_large number rows many =
     let own : bytes_at number (with_number number rows) ≡ sum_by row_size rows =
     ap (sum_by (λ (n : Numbered). row_size n.row)) (own_rows number rows) ∙ sum_by_with_number number rows in
@@ -119,15 +120,15 @@ no_small rows large = ((λ is. absurd (true≢false (sym is))), (λ small. absur
 pub all_small : (sizes : BTreeMap ℕ ℕ) (rows : List Numbered) (at : ℕ) → AreSizes sizes (take at rows) → at ≡ length rows → IsTrue true ↔ AreSmallBatches rows
 all_small sizes rows at are all =
     let whole : take at rows ≡ rows = take_all at rows (omega (arith, all)) in
-    ((λ _ number. subst (λ (xs : List Numbered). bytes_at number xs ≤ MOST_BATCH) whole (are number).small), (λ _. refl))
+    ((λ _ number. subst (λ (xs : List Numbered). bytes_at number xs ≤ MOST_BATCH_BYTES) whole (are number).small), (λ _. refl))
 
-one_by_test : (number bytes : ℕ) (rows : List Row) (b : Bool) → nat_le bytes MOST_BATCH ≡ b → bytes ≡ bytes_of rows → IsTrue b ↔ AreSmallBatches (with_number number rows)
+one_by_test : (number bytes : ℕ) (rows : List Row) (b : Bool) → nat_le bytes MOST_BATCH_BYTES ≡ b → bytes ≡ bytes_of rows → IsTrue b ↔ AreSmallBatches (with_number number rows)
 one_by_test number bytes rows true is counted =
-    let few : bytes ≤ MOST_BATCH = grind (arith, is) in
+    let few : bytes ≤ MOST_BATCH_BYTES = grind (arith, is) in
     ((λ _. loose_small number rows (omega (arith, few, counted))), (λ _. refl))
 one_by_test number bytes rows false is counted =
-    let many : MOST_BATCH < bytes = grind (arith, is) in
+    let many : MOST_BATCH_BYTES < bytes = grind (arith, is) in
     no_small (with_number number rows) (loose_large number rows (omega (arith, many, counted)))
 
-pub one_small : (number bytes : ℕ) (rows : List Row) → bytes ≡ bytes_of rows → IsTrue (nat_le bytes MOST_BATCH) ↔ AreSmallBatches (with_number number rows)
-one_small number bytes rows counted = one_by_test number bytes rows (nat_le bytes MOST_BATCH) refl counted
+pub one_small : (number bytes : ℕ) (rows : List Row) → bytes ≡ bytes_of rows → IsTrue (nat_le bytes MOST_BATCH_BYTES) ↔ AreSmallBatches (with_number number rows)
+one_small number bytes rows counted = one_by_test number bytes rows (nat_le bytes MOST_BATCH_BYTES) refl counted

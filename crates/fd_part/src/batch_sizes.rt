@@ -2,12 +2,10 @@ ghost use Rattle.std.specs.Prelude.{◌≡◌, ◌↔◌, ◌+◌, ◌<◌, true
 ghost use Rattle.fd_part.specs.Sizes.{AreSizes, HasLargeBatch, AreSmallBatches};
 
 use fd_column::{ColumnPart, Columns};
+use fd_kinds::limits::MOST_BATCH_BYTES;
 use fd_kinds::{NoMemory, Numbered, row_bytes};
 use std::alloc::Global;
 use std::collections::BTreeMap;
-
-/// A batch has at most so many bytes, as the log spells its rows.
-pub(crate) const MOST_BATCH: u64 = 150_994_944;
 
 /// Adds the bytes of the row at a place to those of its number, and answers whether these are few
 /// enough for a batch. After `false` the sizes are of no use.
@@ -21,7 +19,7 @@ fn add_row(sizes: &mut BTreeMap<u64, u64>, table: &ColumnPart, at: usize) -> Res
     let Numbered { number, row } = table.row(at)?;
     let before = sizes.get(&number).copied().unwrap_or(0);
     let sum = before.saturating_add(row_bytes(&row));
-    if sum > MOST_BATCH {
+    if sum > MOST_BATCH_BYTES {
         return Ok(false);
     }
     sizes.insert(number, sum)?;

@@ -15,9 +15,10 @@ ghost use Rattle.fd_part.specs.Ranges.{sealed_part};
 
 use crate::batch_columns::BatchColumns;
 use crate::batch_list::batches_of;
-use crate::batch_sizes::{MOST_BATCH, has_small_batches};
+use crate::batch_sizes::has_small_batches;
 use crate::sealed_range::SealedRange;
 use fd_column::{ColumnPart, Columns};
+use fd_kinds::limits::MOST_BATCH_BYTES;
 use fd_kinds::{Batch, Batches, Bytes, Held, NoMemory};
 use fd_parquet::{FileFault, FileTable, read_file};
 use fd_shelf::batch_laws;
@@ -109,13 +110,13 @@ impl Part {
         })
     }
 
-    /// Whether the rows of each number have at most 150,994,944 bytes by `fd_kinds::row_bytes`, as
+    /// Whether the rows of each number have at most `MOST_BATCH_BYTES` by `fd_kinds::row_bytes`, as
     /// those of a batch do. It takes memory for the numbers that occur.
     pub fn has_small_batches(&self) -> Result<bool, NoMemory>
         ensures { IfOk result (λ small. IsTrue small ↔ HasSmallBatches (part_meaning self.now)) }
     {
         match &self.form {
-            Form::Loose { columns, .. } => Ok(columns.bytes() <= MOST_BATCH),
+            Form::Loose { columns, .. } => Ok(columns.bytes() <= MOST_BATCH_BYTES),
             Form::Sealed(range) => has_small_batches(range.rows.allocator(), range.rows.columns()),
         }
     }

@@ -7,7 +7,8 @@ use Rattle.std.proofs.lemmas.List.Concat.{flat_map-cons}
 use Rattle.std.proofs.lemmas.Bool.{cases_lt}
 use Rattle.fd_kinds.specs.declared.row.Numbered.{Numbered}
 use Rattle.fd_kinds.specs.Parts.{PartMeaning, IsPart, IsWithin, rows_of}
-use Rattle.fd_shelf.specs.Books.{Each, Follows, Waits, IsLoose, IsSealed, IsLight, SealedFirst, HasSmallBatches, MOST_BATCH, has_number, all_parts, rows_in, bytes_of}
+use Rattle.fd_shelf.specs.Books.{Each, Follows, Waits, IsLoose, IsSealed, IsLight, SealedFirst, HasSmallBatches, has_number, all_parts, rows_in, bytes_of}
+use Rattle.fd_kinds.specs.declared.limits.TheConstants.{MOST_BATCH_BYTES}
 use Rattle.fd_shelf.specs.Marks.{IsBook}
 use Rattle.fd_shelf.specs.Histories.{batch_at, batches_from, hist, in_row_order}
 use Rattle.fd_shelf.specs.Layout.{spliced}
@@ -172,7 +173,7 @@ same_rows front middle back waiting mark part fits =
     (same_at front middle back waiting mark part fits)
 
 -- among parts that follow one another, each number has a small batch
-small_between : (first mark n : ℕ) (parts : List PartMeaning) → Follows first parts mark → Each IsPart parts → Each HasSmallBatches parts → bytes_of (rows_of_number parts n) ≤ MOST_BATCH
+small_between : (first mark n : ℕ) (parts : List PartMeaning) → Follows first parts mark → Each IsPart parts → Each HasSmallBatches parts → bytes_of (rows_of_number parts n) ≤ MOST_BATCH_BYTES
 small_between first mark n [] follows are small = omega arith
 small_between first mark n (p ∷ ps) follows are small =
     ⊎_elim

@@ -5,6 +5,7 @@ use Rattle.std.proofs.lemmas.List.Elements.{All-nil, All-cons}
 use Rattle.std.proofs.lemmas.List.Sums.{sum_by-cons}
 use mathlib.Core.Logic.{dite}
 use native.Mathlib.Decide.{dec_lt}
+use Rattle.fd_kinds.specs.declared.limits.TheConstants.{MOST_BATCH_BYTES}
 use Rattle.fd_kinds.specs.declared.row.Row.{Row}
 use Rattle.fd_kinds.specs.declared.row.Numbered.{Numbered}
 use Rattle.fd_kinds.specs.RowSize.{row_size}
@@ -122,7 +123,7 @@ pub straggler_book : (book : Book) (mark number : ℕ) (rows : List Row) → IsB
     → IsBook (with_straggler number rows book) mark
 straggler_book book mark number rows order above bounded outside small =
     admitted_is_book book.closed book.active book.stragglers mark (loose_part number rows) order (one_batch number rows) refl above bounded (free_number book mark number order outside)
-    (subst (λ m. m ≤ 150994944) (sym (its_bytes number rows)) small)
+    (subst (λ m. m ≤ MOST_BATCH_BYTES) (sym (its_bytes number rows)) small)
 
 pub straggler_batch : (book : Book) (mark number : ℕ) (rows : List Row) → IsBook book mark → mark < number → (IsIn number (all_parts book) → ⊥)
     → batch_at (all_parts (with_straggler number rows book)) number ≡ in_row_order rows

@@ -7,6 +7,7 @@ use Rattle.std.proofs.lemmas.List.{append-nil, append_assoc}
 use Rattle.std.proofs.lemmas.List.Concat.{flat_map-cons}
 use Rattle.std.proofs.lemmas.List.Elements.{All-nil}
 use Rattle.std.proofs.lemmas.Option.{none-some}
+use Rattle.fd_kinds.specs.declared.limits.TheConstants.{BLOCK_BYTES_LIMIT}
 use Rattle.fd_kinds.specs.declared.row.Row.{Row}
 use Rattle.fd_kinds.specs.RowOrder.{row_cmp}
 use Rattle.fd_kinds.specs.Parts.{PartMeaning, IsPart, IsWithin, rows_of}
@@ -85,7 +86,7 @@ numbered_upto first last (p ∷ ps) bounded follows =
     let rest = follows_upto (p.hi + 1) last ps follows.2 in (omega (arith, rest, bounded), numbered_upto (p.hi + 1) last ps bounded follows.2)
 
 -- Some parts with few bytes can be sealed.
-pub stretch_sealable : (book : Book) (mark : ℕ) (parts : List PartMeaning) → IsBook book mark → IsStretch book mark parts → parts ≢ [] → bytes_of (rows_in parts) < 2 ^ 29 → AreSealable parts
+pub stretch_sealable : (book : Book) (mark : ℕ) (parts : List PartMeaning) → IsBook book mark → IsStretch book mark parts → parts ≢ [] → bytes_of (rows_in parts) < BLOCK_BYTES_LIMIT → AreSealable parts
 stretch_sealable book mark parts order is some light =
     let range = stretch_range book mark parts is some in
     let upto = follows_upto (is.last + 1) mark is.back is.behind in
@@ -195,7 +196,7 @@ some_of_used parts used none = subst IsUsed none used
 pub closed_some : (book : Book) (mark block : ℕ) (parts : List PartMeaning) → IsBook book mark → slice_get book.closed block ≡ Some parts → parts ≢ []
 closed_some book mark block parts order here = some_of_used parts (each_at IsUsed book.closed block parts order.well_formed.used here)
 
-pub closed_light : (book : Book) (mark block : ℕ) (parts : List PartMeaning) → IsBook book mark → slice_get book.closed block ≡ Some parts → bytes_of (rows_in parts) < 2 ^ 29
+pub closed_light : (book : Book) (mark block : ℕ) (parts : List PartMeaning) → IsBook book mark → slice_get book.closed block ≡ Some parts → bytes_of (rows_in parts) < BLOCK_BYTES_LIMIT
 closed_light book mark block parts order here = each_at IsLight book.closed block parts (each_front IsLight book.closed (book.active ∷ []) order.well_formed.light) here
 
 pub closed_sealable : (book : Book) (mark block : ℕ) (parts : List PartMeaning) → IsBook book mark → slice_get book.closed block ≡ Some parts → AreSealable parts

@@ -1,6 +1,7 @@
 -- What a store is seen as: its history, cut behind the batches that it was opened with.
 use Rattle.std.specs.Prelude.{◌≡◌, ℕ, zero, suc, ◌≤◌, ◌<◌, Bool, false, List, [], ◌∷◌, ◌++◌, take, drop, length, refl, Ok, Err, Result, OnOk, is_err}
 use Rattle.std.proofs.Common.{arith, ap, sym, ◌∙◌, true≢false}
+use Rattle.fd_kinds.specs.declared.limits.TheConstants.{MOST_LOOSE_PARTS}
 use Rattle.fd_kinds.specs.declared.row.Row.{Row}
 use Rattle.fd_kinds.specs.History.{History, LocalView, IsOpened, Adds, history_of}
 
@@ -39,7 +40,7 @@ opened_whole history count loose counted =
 -- a history that gains a batch
 pub adds : (opened : ℕ) (history gained : History) (loose old_loose : ℕ) (wanting old_wanting : Bool) (rows : List Row) (old : LocalView)
     → view_of opened history old_loose old_wanting ≡ old → opened ≤ length history → gained ≡ history ++ rows ∷ []
-    → (wanting ≡ false → loose < 16) → Adds old rows (view_of opened gained loose wanting)
+    → (wanting ≡ false → loose < MOST_LOOSE_PARTS) → Adds old rows (view_of opened gained loose wanting)
 adds opened history gained loose old_loose wanting old_wanting rows old is below more few = record {
   opening = ap (take opened) more ∙ take_gained opened history rows below ∙ ap (λ (v : LocalView). v.opening) is;
   added = ap (drop opened) more ∙ drop_gained opened history rows below ∙ ap (λ (v : LocalView). v.added ++ rows ∷ []) is;

@@ -2,7 +2,8 @@ ghost use Rattle.std.specs.Prelude.{◌≡◌, ◌<◌, ◌≤◌, ◌+◌, ◌^
 ghost use Rattle.std.specs.Prelude.{filter, flat_map, IfOk};
 ghost use Rattle.fd_kinds.specs.History.{IsOpened, history_of};
 ghost use Rattle.fd_kinds.specs.Parts.{rows_of};
-ghost use Rattle.fd_shelf.specs.Books.{IsLoose, settled_parts, rows_in, bytes_of, MOST_BATCH};
+ghost use Rattle.fd_shelf.specs.Books.{IsLoose, settled_parts, rows_in, bytes_of};
+ghost use Rattle.fd_kinds.specs.declared.limits.TheConstants.{MOST_BATCH_BYTES, MOST_NUMBERS};
 ghost use Rattle.fd_shelf.specs.Histories.{hist, in_row_order};
 ghost use Rattle.fd_shelf.specs.Steps.{is_loose};
 ghost use Rattle.fd_part.specs.Parts.{part_meaning};
@@ -51,8 +52,8 @@ fn add(shelf: &mut Shelf<Part>, part: Part)
     requires alone { shelf.old.book.stragglers ≡ [] }
     requires loose { IsLoose (part_meaning part) }
     requires unnumbered { (part_meaning part).lo ≡ 0 }
-    requires room { shelf.old.mark < 2 ^ 62 }
-    requires small { bytes_of (part_meaning part).rows ≤ MOST_BATCH }
+    requires room { shelf.old.mark < MOST_NUMBERS }
+    requires small { bytes_of (part_meaning part).rows ≤ MOST_BATCH_BYTES }
     requires spare { 0 < shelf.old.spare }
     ensures alone { shelf.new.book.stragglers ≡ [] }
     ensures mark { shelf.new.mark ≡ shelf.old.mark + 1 }

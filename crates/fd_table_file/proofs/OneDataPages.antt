@@ -7,7 +7,8 @@ use Rattle.fd_hybrid.specs.Format.{IsSpelling}
 use Rattle.fd_pages.specs.declared.cell.CellKind.{CellKind}
 use Rattle.fd_pages.specs.declared.cell.Cell.{Cell}
 use Rattle.fd_pages.specs.Columns.{Fits, sized, plain_values, level}
-use Rattle.fd_pages.specs.Pages.{header_bytes, max_rows, IsBody, IsPage}
+use Rattle.fd_pages.specs.Pages.{header_bytes, IsBody, IsPage}
+use Rattle.fd_pages.specs.declared.cell.TheConstants.{MAX_ROWS}
 use Rattle.fd_table_file.specs.Chunks.{AreFilled, AreValuePages}
 
 -- what is known of runs and of pages
@@ -38,7 +39,7 @@ one_page_of one_runs kind required cells a b p q =
     ∙ sym q.whole
 
 -- the first pages of the same cells have as many cells
-same_count : (f g x y : List Cell) → f ++ x ≡ g ++ y → length f ≤ max_rows → length g ≤ max_rows → (length f < max_rows → x ≡ []) → (length g < max_rows → y ≡ []) → length f ≡ length g
+same_count : (f g x y : List Cell) → f ++ x ≡ g ++ y → length f ≤ MAX_ROWS → length g ≤ MAX_ROWS → (length f < MAX_ROWS → x ≡ []) → (length g < MAX_ROWS → y ≡ []) → length f ≡ length g
 same_count f g x y e few few' full full' =
     by (length f) (length g) (length x) (length y) (sym (length-append f x) ∙ ap length e ∙ length-append g y) few few'
     (λ lt. ap length (full lt)) (λ lt. ap length (full' lt))
@@ -50,7 +51,7 @@ same_count f g x y e few few' full full' =
 
 -- each page has as many cells as a page may have
 abbrev pub AreSized : (List Cell → List ℕ → Type 0) → Type 0
-AreSized Is = (cells : List Cell) (page : List ℕ) → Is cells page → (0 < length cells) × (length cells ≤ max_rows)
+AreSized Is = (cells : List Cell) (page : List ℕ) → Is cells page → (0 < length cells) × (length cells ≤ MAX_ROWS)
 
 -- cells have one page
 abbrev pub HaveOne : (List Cell → List ℕ → Type 0) → Type 0

@@ -7,7 +7,8 @@ use Rattle.fd_kinds.specs.declared.row.Numbered.{Numbered}
 use Rattle.fd_column.specs.Cells.{Column, column_name}
 use Rattle.fd_pages.specs.declared.cell.CellKind.{CellKind}
 use Rattle.fd_pages.specs.declared.cell.Cell.{Cell}
-use Rattle.fd_pages.specs.Pages.{IsPage, AddsPage, max_rows}
+use Rattle.fd_pages.specs.Pages.{IsPage, AddsPage}
+use Rattle.fd_pages.specs.declared.cell.TheConstants.{MAX_ROWS}
 use Rattle.fd_pages.specs.Dictionaries.{IsDictionary, IsCodePage, texts_in}
 use Rattle.fd_footer.specs.declared.footer.Pages.{Pages}
 use Rattle.fd_footer.specs.Tables.{has_dictionary}
@@ -23,7 +24,7 @@ AreFilled Is (front ∷ pages) cells bytes =
     × (cells ≡ front ++ behind)
     × (bytes ≡ page ++ rest)
     × Is front page
-    × (length front < max_rows → behind ≡ [])
+    × (length front < MAX_ROWS → behind ≡ [])
     × AreFilled Is pages behind rest
 
 -- the same with pages of values

@@ -1,6 +1,7 @@
 -- The file of a table (Apache Parquet, README.md, "File format"), by the kind of its pages.
 use Rattle.std.specs.Prelude.{◌≡◌, ℕ, ◌+◌, ◌<◌, ◌≤◌, ◌^◌, ◌==◌, if◌then◌else◌, List, [], ◌∷◌, ◌++◌, length, map, All, sum_by, IsSorted}
-pub use Rattle.fd_kinds.specs.Parts.{IsWithin}
+pub use Rattle.fd_kinds.specs.declared.limits.TheConstants.{BLOCK_BYTES_LIMIT}
+use Rattle.fd_kinds.specs.Parts.{IsWithin}
 use Rattle.fd_kinds.specs.RowSize.{row_size}
 use Rattle.std.specs.List.{AllZip, flat_map}
 use Rattle.fd_kinds.specs.declared.row.Numbered.{Numbered}
@@ -65,6 +66,6 @@ pub record HasChunks (pages : Pages) (rows : List Numbered) (columns : List Colu
   pub whole : bytes ≡ magic ++ chunk_bytes chunks
   pub placed : places ≡ places_from (length magic) chunks
 
--- the rows have fewer than 2^29 bytes in the log, so that each page and the footer have lengths that fit
+-- the rows have few bytes in the log, so that each page and the footer have lengths that fit
 abbrev pub IsSmall : List Numbered → Type 0
-IsSmall rows = sum_by (λ n. row_size n.row) rows < 2 ^ 29
+IsSmall rows = sum_by (λ n. row_size n.row) rows < BLOCK_BYTES_LIMIT

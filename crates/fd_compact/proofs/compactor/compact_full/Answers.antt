@@ -1,5 +1,6 @@
 use Rattle.std.proofs.Common.{arith, ◌≡◌, ◌≤◌, ap, length, subst}
 use Rattle.fd_shelf.specs.Steps.{loose_upto}
+use Rattle.fd_kinds.specs.declared.limits.TheConstants.{MOST_LOOSE_PARTS}
 use Rattle.fd_compact.specs.Compactions.{Compacts, loose_parts}
 use Rattle.fd_compact.proofs.LooseParts.{fewer_left}
 use Rattle.fd_compact.proofs.compactor.compact_full.Goals as goal
@@ -9,7 +10,7 @@ returns-clause-compacts c =
     let old = c.args.shelf.now in
     let upto : old.mark ≤ c.mark-limit.result = omega (arith, c.mark-limit.ensures) in
     let same : loose_upto old.book c.mark-limit.result ≡ loose_parts old = c.level0_laws.ensures.all upto in
-    (omega (arith, c.loose.ensures, c.if-loose-lt-FULL.false), subst (λ parts. Compacts parts old c.in_ok-done.done c.compact_shelf.new.shelf) same c.in_ok-done.ensures.compacts)
+    (omega (arith, c.loose.ensures, c.if-loose-lt-MOST_LOOSE_PARTS.false), subst (λ parts. Compacts parts old c.in_ok-done.done c.compact_shelf.new.shelf) same c.in_ok-done.ensures.compacts)
 
 pub returns-clause-fewer : goal.returns-clause-fewer
 returns-clause-fewer c =
@@ -17,5 +18,5 @@ returns-clause-fewer c =
     let parts = loose_upto old.book c.mark-limit.result in
     let upto : old.mark ≤ c.mark-limit.result = omega (arith, c.mark-limit.ensures) in
     let same : length parts ≡ length (loose_parts old) = ap length (c.level0_laws.ensures.all upto) in
-    let many : 16 ≤ length parts = omega (arith, same, c.loose.ensures, c.if-loose-lt-FULL.false) in
+    let many : MOST_LOOSE_PARTS ≤ length parts = omega (arith, same, c.loose.ensures, c.if-loose-lt-MOST_LOOSE_PARTS.false) in
     fewer_left parts old c.in_ok-done.done c.compact_shelf.new.shelf many (c.level0_laws.ensures.none_left upto) c.in_ok-done.ensures.compacts

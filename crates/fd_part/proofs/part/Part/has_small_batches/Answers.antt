@@ -1,6 +1,7 @@
 use Rattle.std.proofs.Common.{IfOk, List, sym, subst}
 use Rattle.std.specs.Prelude.{◌↔◌, IsTrue, nat_le}
-use Rattle.fd_shelf.specs.Books.{HasSmallBatches, MOST_BATCH}
+use Rattle.fd_shelf.specs.Books.{HasSmallBatches}
+use Rattle.fd_kinds.specs.declared.limits.TheConstants.{MOST_BATCH_BYTES}
 use Rattle.fd_kinds.specs.declared.row.Numbered.{Numbered}
 use Rattle.fd_part.specs.Parts.{form_meaning}
 use Rattle.fd_part.specs.Sizes.{AreSmallBatches}
@@ -10,7 +11,7 @@ use Rattle.fd_part.proofs.part.Part.has_small_batches.Goals as goal
 
 pub returns-in-Loose : goal.returns-in-Loose
 returns-in-Loose c =
-    subst (λ (form : Form). IsTrue (nat_le c.bytes.result MOST_BATCH) ↔ HasSmallBatches (form_meaning form)) (sym c.in-Loose.is)
+    subst (λ (form : Form). IsTrue (nat_le c.bytes.result MOST_BATCH_BYTES) ↔ HasSmallBatches (form_meaning form)) (sym c.in-Loose.is)
     (one_small c.in-Loose.number c.bytes.result c.in-Loose.columns c.bytes.ensures)
 
 pub returns-in-Sealed : goal.returns-in-Sealed
