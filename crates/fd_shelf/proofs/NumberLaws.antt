@@ -40,7 +40,7 @@ any_placed P p [] h = absurd h
 any_placed P p (q ∷ qs) h = any_placed_by P p q qs (nat_lt p.lo q.lo) h (any_placed P p qs)
 
 -- a number that stands among blocks stands there when more come behind them ..
-at_front : (blocks more : List (List PartMeaning)) (block number : ℕ) → IsAt blocks block number → IsAt (blocks ++ more) block number
+pub at_front : (blocks more : List (List PartMeaning)) (block number : ℕ) → IsAt blocks block number → IsAt (blocks ++ more) block number
 at_front blocks more block number is = record { parts = is.parts; here = front_kept blocks more block is.parts is.here; holds = is.holds }
 
 -- .. and where the last of them has its numbers under other parts

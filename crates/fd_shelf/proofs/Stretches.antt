@@ -202,3 +202,23 @@ closed_light book mark block parts order here = each_at IsLight book.closed bloc
 pub closed_sealable : (book : Book) (mark block : ℕ) (parts : List PartMeaning) → IsBook book mark → slice_get book.closed block ≡ Some parts → AreSealable parts
 closed_sealable book mark block parts order here =
     stretch_sealable book mark parts order (closed_stretch book mark block parts order here) (closed_some book mark block parts order here) (closed_light book mark block parts order here)
+
+-- The active block is such a stretch too, and has few bytes.
+pub active_stretch : (book : Book) (mark : ℕ) → IsBook book mark → IsStretch book mark book.active
+active_stretch book mark order =
+    let flat = flat_map (λ (block : List PartMeaning). block) book.closed in
+    let meets = follows_split 1 mark flat book.active (omega arith) (settled_upto order) in
+    record {
+      front = flat;
+      back = [];
+      below = meets.mid;
+      last = mark;
+      whole = ap (λ parts. flat ++ parts) (sym (append-nil book.active));
+      before = meets.front;
+      between = meets.back;
+      behind = refl;
+    }
+
+pub active_sealable : (book : Book) (mark : ℕ) → IsBook book mark → book.active ≢ [] → AreSealable book.active
+active_sealable book mark order some =
+    stretch_sealable book mark book.active order (active_stretch book mark order) some (each_back IsLight book.closed (book.active ∷ []) order.well_formed.light).0
