@@ -104,6 +104,10 @@ impl<D: Disk> Keeper<D> {
             → LeavesOnly D.moment D.left_since self.old.disk self.new.disk
             (Extends (recovered closed active) (rows_in batches.now)) }
 
+        // Where memory ran out before a batch was synced, nothing was written.
+        ensures unwritten { result ≡ Err NoMemory → self.new.synced ≡ self.old.synced
+            → self.new ≡ self.old }
+
         // Only the log of the active block changes.
         ensures others { D.honest self.old.disk
             → LeavesOnly D.moment D.left_since self.old.disk self.new.disk

@@ -100,6 +100,8 @@ pub(crate) fn add_all<D: Disk>(
         tail.old.synced closed active (rows_in batches.now) }
     ensures settled { D.honest disk.old → Settled (D.seen disk.old) (D.may_leave disk.old)
         → (result ≡ Err DiskFault → ⊥) → Settled (D.seen disk.new) (D.may_leave disk.new) }
+    ensures untouched { result ≡ Err NoMemory → tail.new.synced ≡ tail.old.synced
+        → (disk.new ≡ disk.old) × (tail.new ≡ tail.old) }
     ensures cause { HasWriteCause (D.faults disk.old) (D.faults disk.new) result }
 {
     let mut from = 0;

@@ -3,6 +3,7 @@ use Rattle.fd_device.specs.Disks.{Files, Reaches, OthersStay}
 use Rattle.fd_device.specs.Moments.{moments_begin, moments_joined, moments_weaker}
 use Rattle.fd_wal.specs.Runs.{rows_in, AreNumberedFrom, IsSmallBatch}
 use Rattle.std.proofs.lemmas.List.Elements.{All-drop}
+use Rattle.fd_keeper.specs.declared.tail.Tail.{Tail}
 use Rattle.fd_keeper.specs.Blocks.{log_of, recovered, Extends}
 use Rattle.fd_keeper.proofs.Growth.{extends_none}
 use Rattle.fd_keeper.proofs.RunSteps.{numbered_drop, room_left, step_extends, stay_twice, leaves_at_least, gains_none, gains_more, gains_kept, at_rest}
@@ -26,6 +27,7 @@ loop-from-init g c =
       added = λ honest closed active rests. gains_none d.seen d.may_leave old t.block t.gate t.synced closed active rests;
       settled = λ honest settled. settled;
       faults = refl;
+      unmoved = λ none. (refl, refl);
     }
 
 pub add_run-requires-clause-numbered : goal.add_run-requires-clause-numbered
@@ -135,6 +137,7 @@ loop-from-preserved g c =
           (did.added (inv.honesty.0 honest) closed (active ++ so_far.more) so_far.rests (room_left active so_far.more batches c.loop-from.from so_far.added (c.requires.room honest closed active rests)));
       settled = λ honest settled. did.settled (inv.honesty.0 honest) (inv.settled honest settled);
       faults = did.cause ∙ inv.faults;
+      unmoved = λ none. absurd (omega (arith, none, did.further));
     }
 
 pub returns-clause-added : goal.returns-clause-added
@@ -158,3 +161,11 @@ returns-in-Err-DiskFault-clause-faulted g c = λ honest closed active rests faul
     let least = leaves_at_least d.seen d.may_leave new t.synced c.args.tail.now.synced closed active so_far.more batches c.loop-from.from inv.within inv.synced so_far.added
     (λ (image : Files) left. step.each image (g.met.D.Disk.counts_now new (d.moment c.loop-from.disk) image honest_new step.later left)) in
     rw (c.in-Err-DiskFault.ensures.err) least
+
+pub returns-in-Err-NoMemory-clause-untouched : goal.returns-in-Err-NoMemory-clause-untouched
+returns-in-Err-NoMemory-clause-untouched g c = λ wanting same.
+    let inv = c.loop-from.invariant in
+    let tail_kept = c.in-Err-NoMemory.ensures.err in
+    let synced_kept = ap (λ (t : Tail). t.synced) tail_kept in
+    let kept = inv.unmoved (omega (arith, inv.synced, same, synced_kept)) in
+    (c.in-Err-NoMemory.ensures.untouched (ap Err c.in-Err-NoMemory.field-0-is) ∙ kept.0, tail_kept ∙ kept.1)

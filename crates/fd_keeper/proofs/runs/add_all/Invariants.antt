@@ -27,4 +27,5 @@ invariant-loop-from g l =
           → GainsSoFar d.seen d.may_leave l.disk l.tail.block l.tail.gate l.tail.synced closed active (take l.from (rows_in l.batches));
       settled : d.honest l.fn.disk → Settled (d.seen l.fn.disk) (d.may_leave l.fn.disk) → Settled (d.seen l.disk) (d.may_leave l.disk);
       faults : d.faults l.disk ≡ d.faults l.fn.disk;
+      unmoved : l.from ≡ 0 → (l.disk ≡ l.fn.disk) × (l.tail ≡ l.fn.tail);
     }
