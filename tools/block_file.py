@@ -4,7 +4,7 @@
 usage: tools/block_file.py OUT [PROGRAM [WRITES [SEED]]]
        tools/block_file.py --stored [--write]
     OUT: where the file goes, which tools/parquet_reader.py prints, and any other Parquet reader
-    PROGRAM: default crates/run_block_file/out/run_block_file, made by `rt run`; WRITES: 2 to 16, default 12; SEED:
+    PROGRAM: default crates/run_block_file/out/run_block_file, made by `rt run`; WRITES: as many as one block takes, default 12; SEED:
         default 1
     --stored says whether the stored run of crates/run_block_file is the session of made writes with the file of
     their rows, whose columns have two pages, and with --write makes it

@@ -1,7 +1,7 @@
 -- The file of a table (Apache Parquet, README.md, "File format"), by the kind of its pages.
 use Rattle.std.specs.Prelude.{◌≡◌, ℕ, ◌+◌, ◌<◌, ◌≤◌, ◌^◌, ◌==◌, if◌then◌else◌, List, [], ◌∷◌, ◌++◌, length, map, All, sum_by, IsSorted}
-pub use Rattle.fd_kinds.specs.declared.limits.TheConstants.{BLOCK_BYTES_LIMIT}
-use Rattle.fd_kinds.specs.Parts.{IsWithin}
+use Rattle.fd_kinds.specs.declared.limits.TheConstants.{BLOCK_BYTES_LIMIT}
+pub use Rattle.fd_kinds.specs.Parts.{IsWithin}
 use Rattle.fd_kinds.specs.RowSize.{row_size}
 use Rattle.std.specs.List.{AllZip, flat_map}
 use Rattle.fd_kinds.specs.declared.row.Numbered.{Numbered}
