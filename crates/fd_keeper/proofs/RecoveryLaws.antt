@@ -1,13 +1,14 @@
 -- Files stand for one history, or are damaged at one place.
-use Rattle.std.proofs.Common.{◌≡◌, ℕ, suc, ◌+◌, ◌-◌, true, false, List, [], ◌∷◌, ◌++◌, length, take, refl, sym, ◌∙◌, ap, subst, arith, length-append}
+use Rattle.std.proofs.Common.{◌≡◌, ℕ, suc, ◌+◌, ◌-◌, ◌≤◌, inl, inr, true, false, List, [], ◌∷◌, ◌++◌, length, take, refl, sym, ◌∙◌, ap, subst, arith, length-append}
+use Rattle.std.proofs.lemmas.List.{append-nil}
 use Rattle.fd_kinds.specs.History.{History}
 use Rattle.fd_device.specs.declared.files.FileId.{FileId}
-use Rattle.fd_device.specs.Disks.{Files, Settled}
+use Rattle.fd_device.specs.Disks.{Files, Settled, same_file}
 use Rattle.fd_wal.specs.Frames.{Frame}
-use Rattle.fd_wal.specs.Logs.{history_of, is_rotated, IsLog, IsDamaged}
-use Rattle.fd_keeper.specs.Blocks.{Block, Logged, log_of, seal_of, history_in, IsLogged, LeadOn, Recovers, RecoversTo, recovered, IsDamagedAt}
+use Rattle.fd_wal.specs.Logs.{history_of, is_rotated, IsOpen, IsClosed, IsLog, IsDamaged}
+use Rattle.fd_keeper.specs.Blocks.{Block, Logged, log_of, seal_of, history_in, IsLogged, LeadOn, Recovers, RecoversTo, recovered, IsDamagedBlock, IsDamagedAt}
 use Rattle.fd_keeper.specs.Keepers.{EndsWithClosedGate, Kept, Rests, Stands, HasAdded}
-use Rattle.fd_keeper.proofs.Recovery.{same_log, same_blocks}
+use Rattle.fd_keeper.proofs.Recovery.{same_log, same_blocks, earlier_file, lead_more, history_in_append}
 use Rattle.fd_keeper.proofs.Growth.{recovered_append}
 
 abbrev pub OneLog : Type 0
@@ -18,6 +19,12 @@ LogOrDamage = (bytes : List ℕ) (first : ℕ) (frames : List Frame) (gate at : 
 
 abbrev pub OneDamage : Type 0
 OneDamage = (bytes : List ℕ) (first at place : ℕ) → IsDamaged bytes first at → IsDamaged bytes first place → at ≡ place
+
+-- no gate is both open and closed
+open_and_closed : (bytes : List ℕ) → IsOpen bytes → IsClosed bytes → ⊥
+open_and_closed [] opened closed = opened
+open_and_closed (gate ∷ []) opened closed = opened
+open_and_closed (gate ∷ next ∷ more) opened closed = closed opened
 
 module _ (one_log : OneLog) (files : Files) where
   same_frames : (number first : ℕ) (frames others : List Frame) → IsLogged files number first frames → IsLogged files number first others → frames ≡ others
@@ -79,33 +86,73 @@ module _ (one_log : OneLog) (files : Files) where
   -- ---- the damaged block
 
   module _ (log_or_damage : LogOrDamage) where
-    abbrev Damaged : ℕ → ℕ → ℕ → Type 0
-    Damaged at number first = IsDamaged (files (log_of number)) first at
+    abbrev Damaged : FileId → ℕ → ℕ → ℕ → Type 0
+    Damaged file at number first = IsDamagedBlock files number first file at
 
-    damage_stops : (at : ℕ) → Stops (Damaged at)
-    damage_stops at number first frames is log rotated = log_or_damage (files (log_of number)) first frames log.gate at log.log is
+    damage_stops : (file : FileId) (at : ℕ) → Stops (Damaged file at)
+    damage_stops file at number first frames (inl seal) log rotated = open_and_closed (files (seal_of number)) seal.opened log.unsealed
+    damage_stops file at number first frames (inr is) log rotated = log_or_damage (files (log_of number)) first frames log.gate at log.log is.log
 
-    damage_in : (file : FileId) (at : ℕ) (is : IsDamagedAt files file at) → Damaged at (0 + length is.closed) (1 + length (history_in is.closed))
-    damage_in file at is = moved (Damaged at) (length is.closed) (0 + length is.closed) (1 + length (history_in is.closed)) (1 + length (history_in is.closed)) (omega arith) refl is.log
+    damage_in : (file : FileId) (at : ℕ) (is : IsDamagedAt files file at) → Damaged file at (0 + length is.closed) (1 + length (history_in is.closed))
+    damage_in file at is = moved (Damaged file at) (length is.closed) (0 + length is.closed) (1 + length (history_in is.closed)) (1 + length (history_in is.closed)) (omega arith) refl is.damage
 
     same_blocks_damaged : (file other : FileId) (at place : ℕ) (a : IsDamagedAt files file at) (b : IsDamagedAt files other place) → a.closed ≡ b.closed
     same_blocks_damaged file other at place a b =
-        same_closed (Damaged at) (Damaged place) (damage_stops at) (damage_stops place) 0 1 a.closed b.closed a.before (damage_in file at a) b.before (damage_in other place b)
+        same_closed (Damaged file at) (Damaged other place) (damage_stops file at) (damage_stops other place) 0 1 a.closed b.closed a.before (damage_in file at a) b.before (damage_in other place b)
+
+    damage_at : (closed others : List Block) (file : FileId) (at : ℕ) → closed ≡ others → Damaged file at (length closed) (1 + length (history_in closed)) → Damaged file at (length others) (1 + length (history_in others))
+    damage_at closed others file at same is = subst (λ (l : List Block). Damaged file at (length l) (1 + length (history_in l))) same is
+
+    same_file_in : (file other : FileId) (at place number first : ℕ) → Damaged file at number first → Damaged other place number first → file ≡ other
+    same_file_in file other at place number first (inl a) (inl b) = a.file_is ∙ sym b.file_is
+    same_file_in file other at place number first (inl a) (inr b) = absurd (open_and_closed (files (seal_of number)) a.opened b.unsealed)
+    same_file_in file other at place number first (inr a) (inl b) = absurd (open_and_closed (files (seal_of number)) b.opened a.unsealed)
+    same_file_in file other at place number first (inr a) (inr b) = a.file_is ∙ sym b.file_is
 
     pub same_file_damaged : (file other : FileId) (at place : ℕ) → IsDamagedAt files file at → IsDamagedAt files other place → file ≡ other
-    same_file_damaged file other at place a b = a.file_is ∙ ap (λ (l : List Block). log_of (length l)) (same_blocks_damaged file other at place a b) ∙ sym b.file_is
+    same_file_damaged file other at place a b =
+        same_file_in file other at place (length b.closed) (1 + length (history_in b.closed)) (damage_at a.closed b.closed file at (same_blocks_damaged file other at place a b) a.damage) b.damage
+
+    same_place_in : OneDamage → (file other : FileId) (at place number first : ℕ) → Damaged file at number first → Damaged other place number first → at ≡ place
+    same_place_in one_damage file other at place number first (inl a) (inl b) = a.at_is ∙ sym b.at_is
+    same_place_in one_damage file other at place number first (inl a) (inr b) = absurd (open_and_closed (files (seal_of number)) a.opened b.unsealed)
+    same_place_in one_damage file other at place number first (inr a) (inl b) = absurd (open_and_closed (files (seal_of number)) b.opened a.unsealed)
+    same_place_in one_damage file other at place number first (inr a) (inr b) = one_damage (files (log_of number)) first at place a.log b.log
 
     pub same_place_damaged : OneDamage → (file other : FileId) (at place : ℕ) → IsDamagedAt files file at → IsDamagedAt files other place → at ≡ place
     same_place_damaged one_damage file other at place a b =
-        one_damage (files (log_of (length b.closed))) (1 + length (history_in b.closed)) at place
-        (subst (λ (l : List Block). IsDamaged (files (log_of (length l))) (1 + length (history_in l)) at) (same_blocks_damaged file other at place a b) a.log) b.log
+        same_place_in one_damage file other at place (length b.closed) (1 + length (history_in b.closed)) (damage_at a.closed b.closed file at (same_blocks_damaged file other at place a b) a.damage) b.damage
+
+    logged_and_damaged : (active : List Frame) (file : FileId) (at number first : ℕ) → IsLogged files number first active → Damaged file at number first → ⊥
+    logged_and_damaged active file at number first log (inl seal) = open_and_closed (files (seal_of number)) seal.opened log.unsealed
+    logged_and_damaged active file at number first log (inr is) = log_or_damage (files (log_of number)) first active log.gate at log.log is.log
 
     pub not_both : (closed : List Block) (active : List Frame) (file : FileId) (at : ℕ) → Recovers files closed active → IsDamagedAt files file at → ⊥
     not_both closed active file at a b =
-        let same = same_closed (Active active) (Damaged at) (active_stops active a.unended) (damage_stops at) 0 1 closed b.closed a.before
+        let same = same_closed (Active active) (Damaged file at) (active_stops active a.unended) (damage_stops file at) 0 1 closed b.closed a.before
         (moved (Active active) (length closed) (0 + length closed) (1 + length (history_in closed)) (1 + length (history_in closed)) (omega arith) refl a.last) b.before (damage_in file at b) in
         let log : IsLogged files (length b.closed) (1 + length (history_in b.closed)) active = subst (λ (l : List Block). IsLogged files (length l) (1 + length (history_in l)) active) same a.last in
-        log_or_damage (files (log_of (length b.closed))) (1 + length (history_in b.closed)) active log.gate at log.log b.log
+        logged_and_damaged active file at (length b.closed) (1 + length (history_in b.closed)) log b.damage
+
+-- ---- other files that recover to the same
+
+-- all files of the blocks that recovery reaches are the same, but the log of the active one
+abbrev pub SameReached : List Block → Files → Files → Type 0
+SameReached closed files image = (f : FileId) → f.block ≤ length closed → same_file f (log_of (length closed)) ≡ false → image f ≡ files f
+
+pub recovers_alike : (files image : Files) (closed : List Block) (active : List Frame) (gate : ℕ) → Recovers files closed active → SameReached closed files image
+    → IsLog (image (log_of (length closed))) (1 + length (history_in closed)) active gate → Recovers image closed active
+recovers_alike files image closed active gate was same log = record {
+  before = same_blocks files image 0 1 closed (λ f less. same f (omega (arith, less)) (earlier_file f _ (length closed) (omega (arith, less)))) was.before;
+  last = record { unsealed = subst IsClosed (sym (same (seal_of (length closed)) (omega arith) refl)) was.last.unsealed; gate = gate; log = log };
+  unended = was.unended;
+}
+
+pub leads_further : (files : Files) (closed : List Block) (frames : List Frame) → LeadOn files 0 1 closed → IsLogged files (length closed) (1 + length (history_in closed)) frames → is_rotated frames ≡ true → LeadOn files 0 1 (closed ++ Logged frames ∷ [])
+leads_further files closed frames lead is rotated = lead_more files 0 1 closed frames lead (subst (λ (n : ℕ). IsLogged files n (1 + length (history_in closed)) frames) (omega arith) is) rotated
+
+pub history_further : (closed : List Block) (frames : List Frame) → history_in (closed ++ Logged frames ∷ []) ≡ history_in closed ++ history_of frames
+history_further closed frames = history_in_append closed (Logged frames ∷ []) ∙ ap (λ (l : History). history_in closed ++ l) (append-nil (history_of frames))
 
 -- ---- settled disks
 

@@ -1,11 +1,11 @@
 -- The history that the files of a disk stand for: block after block, from 0 on.
-use Rattle.std.specs.Prelude.{◌≡◌, ℕ, ◌+◌, ◌≤◌, Bool, true, false, List, [], ◌∷◌, ◌++◌, length, take}
+use Rattle.std.specs.Prelude.{◌≡◌, ◌⊎◌, ℕ, ◌+◌, ◌≤◌, Bool, true, false, List, [], ◌∷◌, ◌++◌, length, take}
 use Rattle.fd_kinds.specs.History.{History}
 use Rattle.fd_device.specs.Disks.{Files}
 use Rattle.fd_device.specs.declared.files.FileId.{FileId}
 use Rattle.fd_device.specs.declared.files.FileKind.TheVariants as kind
 use Rattle.fd_wal.specs.Frames.{Frame}
-use Rattle.fd_wal.specs.Logs.{history_of, is_rotated, IsClosed, IsLog, IsDamaged}
+use Rattle.fd_wal.specs.Logs.{history_of, is_rotated, IsOpen, IsClosed, IsLog, IsDamaged}
 
 abbrev pub log_of : ℕ → FileId
 log_of block = record { kind = kind.Log; block = block }
@@ -55,14 +55,27 @@ pub record Recovers (files : Files) (closed : List Block) (active : List Frame) 
 abbrev pub recovered : List Block → List Frame → History
 recovered closed active = history_in closed ++ history_of active
 
--- Behind blocks that lead on to it stands the first damaged one: its seal's gate is closed, and the file, its log, is
--- damaged at this place.
+-- The gate of the block's seal is open: seals have no meaning yet, and so the seal is damaged where it begins.
+pub record HasOpenSeal (files : Files) (number : ℕ) (file : FileId) (at : ℕ) : Type 0 where
+  pub opened : IsOpen (files (seal_of number))
+  pub file_is : file ≡ seal_of number
+  pub at_is : at ≡ 0
+
+-- The gate of the block's seal is closed, and its log is damaged at this place.
+pub record HasDamagedLog (files : Files) (number first : ℕ) (file : FileId) (at : ℕ) : Type 0 where
+  pub unsealed : IsClosed (files (seal_of number))
+  pub file_is : file ≡ log_of number
+  pub log : IsDamaged (files (log_of number)) first at
+
+-- the first damaged place of a block is in its seal, or else in its log
+abbrev pub IsDamagedBlock : Files → ℕ → ℕ → FileId → ℕ → Type 0
+IsDamagedBlock files number first file at = HasOpenSeal files number file at ⊎ HasDamagedLog files number first file at
+
+-- Behind blocks that lead on to it stands the first damaged one.
 pub record IsDamagedAt (files : Files) (file : FileId) (at : ℕ) : Type 0 where
   pub closed : List Block
   pub before : LeadOn files 0 1 closed
-  pub unsealed : IsClosed (files (seal_of (length closed)))
-  pub file_is : file ≡ log_of (length closed)
-  pub log : IsDamaged (files (log_of (length closed))) (1 + length (history_in closed)) at
+  pub damage : IsDamagedBlock files (length closed) (1 + length (history_in closed)) file at
 
 -- the files recover to a history
 pub record RecoversTo (history : History) (files : Files) : Type 0 where

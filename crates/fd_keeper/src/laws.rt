@@ -1,14 +1,15 @@
 //! Laws of what files stand for, and of what a keeper does to it, as contracts of functions that
 //! do nothing.
 
-ghost use Rattle.std.specs.Prelude.{◌≡◌, ◌+◌, ◌-◌, ◌++◌, [], ℕ, List, length, take};
+ghost use Rattle.std.specs.Prelude.{◌≡◌, ◌≤◌, ◌+◌, ◌-◌, ◌++◌, [], ◌∷◌, ℕ, List, length, take};
+ghost use Rattle.std.specs.Prelude.{true, false};
 ghost use Rattle.fd_kinds.specs.History.{History};
 ghost use Rattle.fd_device.specs.declared.files.FileId.{FileId};
-ghost use Rattle.fd_device.specs.Disks.{Files, Settled};
+ghost use Rattle.fd_device.specs.Disks.{Files, Settled, same_file};
 ghost use Rattle.fd_wal.specs.Frames.{Frame};
-ghost use Rattle.fd_wal.specs.Logs.{IsLog};
+ghost use Rattle.fd_wal.specs.Logs.{IsLog, history_of, is_rotated};
 ghost use Rattle.fd_keeper.specs.Blocks.{Block, log_of, history_in, Recovers, recovered};
-ghost use Rattle.fd_keeper.specs.Blocks.{RecoversTo, IsDamagedAt};
+ghost use Rattle.fd_keeper.specs.Blocks.{RecoversTo, IsDamagedAt, Logged, IsLogged, LeadOn};
 ghost use Rattle.fd_keeper.specs.Keepers.{EndsWithClosedGate, Kept, Rests, Stands, HasAdded, ended};
 
 use fd_device::Disk;
@@ -38,7 +39,25 @@ pub fn one_damaged_place()
     one_damage();
 }
 
-/// No files both recover and are damaged.
+/// Files recover by the files of the blocks that they reach. Others that have the same files there
+/// recover to the same, also where the log of the active block has other bytes for its frames. A
+/// block whose log is ended leads on to the next.
+pub fn recovery_laws()
+    ensures alike { (files image : Files) (closed : List Block) (active : List Frame) (gate : ℕ)
+        → Recovers files closed active
+        → ((f : FileId) → f.block ≤ length closed
+        → same_file f (log_of (length closed)) ≡ false → image f ≡ files f)
+        → IsLog (image (log_of (length closed))) (1 + length (history_in closed)) active gate
+        → Recovers image closed active }
+    ensures further { (files : Files) (closed : List Block) (frames : List Frame)
+        → LeadOn files 0 1 closed
+        → IsLogged files (length closed) (1 + length (history_in closed)) frames
+        → is_rotated frames ≡ true → LeadOn files 0 1 (closed ++ Logged frames ∷ []) }
+    ensures history { (closed : List Block) (frames : List Frame)
+        → history_in (closed ++ Logged frames ∷ []) ≡ history_in closed ++ history_of frames }
+{}
+
+/// No files both recover and are damaged, be it a log that is or a seal.
 pub fn recovery_or_damage()
     ensures { (files : Files) (closed : List Block) (active : List Frame) (file : FileId) (at : ℕ)
         → Recovers files closed active → IsDamagedAt files file at → ⊥ }

@@ -14,4 +14,6 @@ mod tail;
 
 pub use faults::KeeperFault;
 pub use keeper::Keeper;
-pub use laws::{keeping_laws, one_damaged_place, one_recovery, recovery_or_damage, settled_laws};
+pub use laws::{
+    keeping_laws, one_damaged_place, one_recovery, recovery_laws, recovery_or_damage, settled_laws,
+};
