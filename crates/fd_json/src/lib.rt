@@ -1,4 +1,4 @@
-//! The JSON of write bodies, answers and refusals (RFC 8259).
+//! The JSON of write bodies, answers, refusals and rows (RFC 8259).
 #![tactic(auto)]
 
 mod answers;
@@ -6,6 +6,7 @@ mod body;
 mod fault;
 mod refusal;
 mod refusal_text;
+mod rows;
 mod shape;
 mod texts;
 mod writer;
@@ -15,4 +16,4 @@ pub use fault::BodyFault;
 pub use refusal::{Fault, Parameter};
 pub use refusal_text::fault_text;
 pub use shape::base64_law;
-pub use texts::{answer_text, number_text, stand_text};
+pub use texts::{answer_text, dump_text, number_text, stand_text};

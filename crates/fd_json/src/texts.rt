@@ -1,10 +1,11 @@
 ghost use Rattle.std.specs.Prelude.{◌≡◌, IfOk};
 ghost use Rattle.serde_json.specs.Written.{compact_text};
 ghost use Rattle.fd_json.specs.Answers.{answer_json, stand_json, drawn_json};
+ghost use Rattle.fd_json.specs.Rows.{row_json};
 
 use crate::answers::{Drawn, write_answer};
 use crate::writer::WritesJson;
-use fd_kinds::{Answer, Bytes, Items, NoMemory, Stand};
+use fd_kinds::{Answer, Bytes, Items, NoMemory, Numbered, Stand};
 use json::Writer;
 use std::alloc::Global;
 
@@ -42,4 +43,13 @@ pub fn number_text(alloc: Global, n: u64) -> Result<Bytes, NoMemory>
     ensures { IfOk result (λ text. text ≡ compact_text (drawn_json n)) }
 {
     text_of(alloc, &Drawn { number: n })
+}
+
+/// The line of a dump for a row, without its line end: the compact JSON text of the row and the
+/// number of its batch, `_tx`. Whole numbers are texts of their digits, labels stand by rising
+/// name, and of a stack the leaf stands first.
+pub fn dump_text(alloc: Global, row: &Numbered) -> Result<Bytes, NoMemory>
+    ensures { IfOk result (λ text. text ≡ compact_text (row_json row.now)) }
+{
+    text_of(alloc, row)
 }

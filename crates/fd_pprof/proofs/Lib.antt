@@ -1,6 +1,7 @@
 pub mod FirstItems
 pub mod Hex
 pub mod IdPlaces
+pub mod IdRuns
 pub mod Refusals
 pub mod SizeSteps
 pub mod TextNumbers

@@ -1,8 +1,9 @@
-use fd_json::{Fault, Parameter, answer_text, fault_text, number_text, stand_text};
+use fd_json::{Fault, Parameter, answer_text, dump_text, fault_text, number_text, stand_text};
 use fd_kinds::{
-    Answer, Items, NoMemory, OneRange, Point, Points, SeriesName, Stack, StackSum, Stand, Text,
+    Answer, Items, NoMemory, Numbered, OneRange, Point, Points, SeriesName, Stack, StackSum, Stand,
+    Text,
 };
-use fixtures::{kind, labels, texts};
+use fixtures::{CPU, MadeRow, kind, labels, made_row, texts};
 use std::alloc::Global;
 use std::test::Fail;
 
@@ -221,5 +222,48 @@ fn refusals_name_the_error_and_its_fields(rt: HostRuntime) -> Result<(), Fail> {
     for (fault, text) in FAULTS {
         assert!(rt; is_fault_text(rt.alloc(), &fault, text)?, "{text}");
     }
+    Ok(())
+}
+
+/// Whether this is the line of a dump for the row in the batch of this number.
+fn is_dump_text(
+    alloc: Global,
+    number: u64,
+    made: &MadeRow<'_>,
+    text: &str,
+) -> Result<bool, NoMemory> {
+    let row = made_row(alloc, made)?;
+    Ok(dump_text(alloc, &Numbered { number, row })?.as_slice() == text.as_bytes())
+}
+
+#[test]
+fn a_row_is_a_line_of_a_dump(rt: HostRuntime) -> Result<(), Fail> {
+    let made = MadeRow {
+        labels: &[("job", "api")],
+        timestamp: 1_000,
+        frames: &["main"],
+        value: 10,
+        ..CPU
+    };
+    let text =
+        "{\"_tx\":\"1\",\"duration\":\"0\",\"labels\":[{\"name\":\"job\",\"value\":\"api\"}],\"name\":\"process_cpu\",\"period\":\"10000000\",\"period_type\":\"cpu\",\"period_unit\":\"nanoseconds\",\"pprof_labels\":[],\"sample_type\":\"cpu\",\"sample_unit\":\"nanoseconds\",\"stack\":[\"main\"],\"timestamp\":\"1000\",\"value\":\"10\"}";
+    assert!(rt; is_dump_text(rt.alloc(), 1, &made, text)?);
+    Ok(())
+}
+
+#[test]
+fn a_dump_has_the_sample_labels_and_signs(rt: HostRuntime) -> Result<(), Fail> {
+    let made = MadeRow {
+        timestamp: -1,
+        frames: &["work", "main"],
+        pprof_labels: &[("b", "2"), ("a", "1")],
+        period: 0,
+        duration: 30,
+        value: -9_223_372_036_854_775_808,
+        ..CPU
+    };
+    let text =
+        "{\"_tx\":\"18446744073709551615\",\"duration\":\"30\",\"labels\":[],\"name\":\"process_cpu\",\"period\":\"0\",\"period_type\":\"cpu\",\"period_unit\":\"nanoseconds\",\"pprof_labels\":[{\"name\":\"a\",\"value\":\"1\"},{\"name\":\"b\",\"value\":\"2\"}],\"sample_type\":\"cpu\",\"sample_unit\":\"nanoseconds\",\"stack\":[\"work\",\"main\"],\"timestamp\":\"-1\",\"value\":\"-9223372036854775808\"}";
+    assert!(rt; is_dump_text(rt.alloc(), 18_446_744_073_709_551_615, &made, text)?);
     Ok(())
 }

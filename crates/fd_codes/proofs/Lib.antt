@@ -1,0 +1,14 @@
+mod HeaderLaws
+mod TextLaws
+mod PickLaws
+mod Places
+mod Lengths
+mod PageLaws
+mod Widths
+mod DictionaryLaws
+mod CodeLaws
+mod SearchLaws
+mod CellPicks
+mod BadPages
+mod Numbers
+mod Outcomes
