@@ -1,5 +1,5 @@
 -- What was read of a block.
-use Rattle.std.proofs.Common.{◌≡◌, ◌≢◌, ℕ, ◌+◌, ◌<◌, ◌≤◌, ◌↔◌, inl, inr, Bool, true, false, List, [], ◌∷◌, length, take, refl, sym, ◌∙◌, ap, subst, arith}
+use Rattle.std.proofs.Common.{◌≡◌, ℕ, ◌<◌, ◌≤◌, inr, List, [], ◌∷◌, length, take, refl, sym, ◌∙◌, ap, subst, arith}
 use Rattle.fd_device.specs.Disks.{Files, IsDurable, NoneNew}
 use Rattle.fd_device.specs.declared.files.FileId.{FileId}
 use Rattle.fd_device.specs.declared.files.FileKind.{FileKind}

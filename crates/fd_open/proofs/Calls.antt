@@ -1,7 +1,7 @@
 -- Calls that change no file.
 use Rattle.std.proofs.Common.{◌≡◌, ◌↔◌, ℕ, refl, sym, ◌∙◌, ap}
 use Rattle.fd_device.specs.Disks.{Files, Elapses, Settled, NoneNew}
-use Rattle.fd_device.specs.Moments.{LeavesOnly, moments_begin, moments_more, moments_joined, moments_weaker}
+use Rattle.fd_device.specs.Moments.{moments_begin, moments_more, moments_joined, moments_weaker}
 use Rattle.fd_open.specs.Barriers.{Quiet}
 
 module _ {D : Type 0} (honest : D → Type 0) (seen : D → Files) (may_leave : D → Files → Type 0) (moment : D → ℕ) (left_since : D → ℕ → Files → Type 0)

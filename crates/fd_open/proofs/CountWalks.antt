@@ -1,5 +1,5 @@
 -- Going from block to block, and counting.
-use Rattle.std.proofs.Common.{◌≡◌, ℕ, ◌+◌, ◌<◌, ◌≤◌, ◌^◌, Bool, true, false, List, [], ◌∷◌, ◌++◌, length, refl, sym, ◌∙◌, ap, subst, arith, length-append}
+use Rattle.std.proofs.Common.{◌≡◌, ℕ, ◌+◌, ◌<◌, ◌≤◌, ◌^◌, Bool, true, false, List, [], ◌∷◌, ◌++◌, length, sym, ◌∙◌, ap, subst, arith, length-append}
 use Rattle.std.specs.List.{sum_by}
 use Rattle.std.proofs.lemmas.List.{length-map}
 use Rattle.std.proofs.lemmas.List.Sums.{sum_by-append}
@@ -8,13 +8,13 @@ use Rattle.fd_device.specs.Disks.{Files}
 use Rattle.fd_wal.specs.Frames.{Frame}
 use Rattle.fd_wal.specs.Logs.{history_of, is_rotated, IsClosed, IsLog}
 use Rattle.fd_wal.specs.Runs.{rows_in}
-use Rattle.fd_keeper.specs.Blocks.{Block, Logged, log_of, seal_of, history_in, IsLogged, LeadOn, Recovers, recovered, IsDamagedBlock, IsDamagedAt}
+use Rattle.fd_keeper.specs.Blocks.{Block, Logged, log_of, seal_of, history_in, IsLogged, LeadOn, IsDamagedBlock}
 use Rattle.fd_open.specs.declared.cause.OpenCause.{OpenCause}
 use Rattle.fd_open.specs.declared.cause.OpenCause.TheVariants.{DiskFault, Damaged, NoMemory}
 use Rattle.fd_open.specs.declared.reading.LogFound.{LogFound}
 use Rattle.fd_open.specs.declared.counting.Found.{Found}
 use Rattle.fd_open.specs.Causes.{TellsBlock, TellsDamage}
-use Rattle.fd_open.specs.Counting.{IsFoundIn, CountsUpto, IsCountOf, CountsBlock, Counts}
+use Rattle.fd_open.specs.Counting.{IsFoundIn, CountsUpto, CountsBlock, Counts}
 use Rattle.fd_open.specs.Barriers.{Quiet}
 use Rattle.fd_open.proofs.Calls.{quiet_then}
 use Rattle.fd_open.proofs.LogLimits.{found_numbered}

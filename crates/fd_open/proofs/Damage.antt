@@ -1,5 +1,5 @@
 -- Which answers damaged files and others get.
-use Rattle.std.proofs.Common.{◌≡◌, ℕ, List, length, sym, ◌∙◌, subst}
+use Rattle.std.proofs.Common.{◌≡◌, ℕ, List, subst}
 use Rattle.std.specs.Prelude.{Result, Ok, Err, IfOk, IfErr, MatchResult}
 use Rattle.fd_device.specs.declared.files.FileId.{FileId}
 use Rattle.fd_device.specs.Disks.{Files}

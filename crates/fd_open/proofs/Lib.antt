@@ -1,3 +1,4 @@
+pub mod BlockEnds
 pub mod BlockReads
 pub mod Calls
 pub mod CountWalks

@@ -1,20 +1,21 @@
 -- What a store is opened to, and what a crash leaves meanwhile.
-use Rattle.std.proofs.Common.{◌≡◌, ℕ, ◌+◌, ◌<◌, ◌≤◌, ◌^◌, inl, inr, List, [], length, refl, sym, ◌∙◌, ap, subst, arith}
+use Rattle.std.proofs.Common.{◌≡◌, ℕ, ◌+◌, inl, inr, List, length, map, refl, sym, ◌∙◌, ap, subst}
 use Rattle.std.specs.Prelude.{None}
 use Rattle.fd_kinds.specs.History.{History}
 use Rattle.fd_device.specs.declared.files.FileId.{FileId}
-use Rattle.fd_device.specs.Disks.{Files, Settled, OthersStay, Follows}
+use Rattle.fd_device.specs.Disks.{Files, Settled, OthersStay}
 use Rattle.fd_device.specs.Moments.{LeavesOnly, moments_joined, moments_weaker}
-use Rattle.fd_shelf.specs.Books.{Shelved}
-use Rattle.fd_wal.specs.Frames.{Frame}
+use Rattle.fd_shelf.specs.Books.{Book, Shelved, Each, IsUsed}
+use Rattle.fd_shelf.specs.Steps.{highest}
 use Rattle.fd_wal.specs.Logs.{IsLog}
-use Rattle.fd_keeper.specs.Blocks.{Block, log_of, history_in, Recovers, RecoversTo, recovered, IsDamagedAt}
-use Rattle.fd_keeper.specs.Keepers.{Kept, Rests, IsAtRest, Stands}
+use Rattle.fd_keeper.specs.Blocks.{log_of, history_in, Recovers, RecoversTo, recovered}
+use Rattle.fd_keeper.specs.Keepers.{Kept, Rests, IsAtRest}
 use Rattle.fd_open.specs.declared.tail.Tail.{Tail}
-use Rattle.fd_open.specs.Barriers.{Quiet, Passed, Barred, IsRead, IsDurableBelow, IsDurableFrom}
+use Rattle.fd_open.specs.Barriers.{Quiet, Barred, IsRead, IsDurableBelow, IsDurableFrom}
 use Rattle.fd_open.specs.Opens.{Opens, IsOpened}
 use Rattle.fd_open.specs.Shelving.{Reads}
-use Rattle.fd_open.proofs.Repairs.{Alike, settled_after}
+use Rattle.fd_open.proofs.BlockEnds.{same_ends}
+use Rattle.fd_open.proofs.Repairs.{Alike}
 use Rattle.fd_open.proofs.Walking.{length_closed}
 
 abbrev pub OneHistory : Type 0
@@ -94,12 +95,15 @@ module _ {D : Type 0} (seen : D → Files) (may_leave : D → Files → Type 0) 
     pub at_rest : IsAtRest seen may_leave new block gate synced
     at_rest = record { closed = is.closed; active = is.active; rests = rests_here }
 
-    pub is_opened : (kept : Kept D) → kept.disk ≡ new → kept.block ≡ block → kept.gate ≡ gate → kept.synced ≡ synced → kept.fault ≡ None → IsOpened seen may_leave old shelf kept
-    is_opened kept disk_is number_is gate_is count_is healthy = record {
+    pub is_opened : Each IsUsed shelf.book.closed → (kept : Kept D) → kept.disk ≡ new → kept.block ≡ block → kept.gate ≡ gate → kept.synced ≡ synced → kept.fault ≡ None → IsOpened seen may_leave old shelf kept
+    is_opened used kept disk_is number_is gate_is count_is healthy = record {
       closed = is.closed;
       active = is.active;
       recovers = is.recovers;
       shelf_is = is.shelf_is;
+      ends =
+          (let closed_is = ap (λ (b : Book). b.closed) is.shelf_is.book in
+          ap (map highest) closed_is ∙ same_ends 0 is.closed (subst (Each IsUsed) closed_is used));
       keeper = record {
         healthy = healthy;
         rests =

@@ -1,15 +1,15 @@
 -- What the steps of the repair of the active log leave.
-use Rattle.std.proofs.Common.{◌≡◌, ℕ, ◌+◌, ◌<◌, ◌≤◌, min, inl, inr, ⊎_elim, Bool, true, false, ◌&&◌, nat_eq, List, ◌∷◌, [], length, take, refl, sym, ◌∙◌, ap, subst, arith, eq-eqb}
+use Rattle.std.proofs.Common.{◌≡◌, ℕ, ◌+◌, ◌<◌, ◌≤◌, min, ⊎_elim, Bool, true, false, ◌&&◌, nat_eq, List, ◌∷◌, [], length, take, refl, sym, ◌∙◌, ap, subst, arith, eq-eqb}
 use Rattle.std.proofs.lemmas.List.{length-take}
-use Rattle.std.proofs.lemmas.Bool.{cond-true, eqb-true, cases_lt, cases_eq}
+use Rattle.std.proofs.lemmas.Bool.{cond-true, eqb-true, cases_lt}
 use Rattle.fd_device.specs.declared.files.FileId.{FileId}
 use Rattle.fd_device.specs.declared.files.FileKind.{FileKind}
 use Rattle.fd_device.specs.declared.files.FileKind.TheVariants as kind
 use Rattle.fd_device.specs.Disks.{Files, same_file, same_kind, changed, written, Torn, Cut, Steps, Reaches, Follows, OthersStay, IsDurable, Settled}
 use Rattle.fd_wal.specs.Frames.{Frame}
 use Rattle.fd_wal.specs.Logs.{IsLog}
-use Rattle.fd_keeper.specs.Blocks.{Block, log_of, history_in, Recovers, RecoversTo, recovered}
-use Rattle.fd_keeper.specs.Keepers.{Rests, EndsWithClosedGate}
+use Rattle.fd_keeper.specs.Blocks.{Block, log_of, history_in, Recovers, recovered}
+use Rattle.fd_keeper.specs.Keepers.{Rests}
 use Rattle.fd_open.specs.declared.tail.Tail.{Tail}
 use Rattle.fd_open.specs.Barriers.{IsRead, IsDurableBelow, IsDurableFrom}
 use Rattle.fd_open.proofs.LogEnds.{cut_log, torn_log, gate_fits, written_log, written_ends}
@@ -136,8 +136,8 @@ module _ (alike : Alike) {D : Type 0} (seen : D → Files) (may_leave : D → Fi
 
 -- ---- which files are on the disk afterwards
 
-pub others_joined : (file : FileId) (first mid last : Files) → OthersStay file first mid → OthersStay file mid last → OthersStay file first last
-others_joined file first mid last one two f other = two f other ∙ one f other
+pub others_joined : (file : FileId) (files mid last : Files) → OthersStay file files mid → OthersStay file mid last → OthersStay file files last
+others_joined file files mid last one two f other = two f other ∙ one f other
 
 pub others_followed : (file : FileId) (step next : List ℕ → List ℕ → Type 0) (old between new : Files → Type 0) → Follows (Steps file step) old between → Follows (Steps file next) between new → Follows (OthersStay file) old new
 others_followed file step next old between new one two image left =

@@ -1,6 +1,6 @@
 -- Batches on a shelf.
-use Rattle.std.proofs.Common.{◌≡◌, ℕ, ◌+◌, ◌<◌, ◌≤◌, ◌^◌, Bool, true, false, not, eqb, List, [], ◌∷◌, ◌++◌, length, map, refl, sym, ◌∙◌, ap, subst, arith, append_assoc, length-append, eq-eqb}
-use Rattle.std.specs.List.{All, filter, sum_by, flat_map}
+use Rattle.std.proofs.Common.{◌≡◌, ℕ, ◌+◌, ◌<◌, ◌^◌, true, false, not, eqb, List, [], ◌∷◌, ◌++◌, length, refl, sym, ◌∙◌, ap, subst, arith, append_assoc, eq-eqb}
+use Rattle.std.specs.List.{All, filter}
 use Rattle.std.specs.Prelude.{IsSorted}
 use Rattle.std.proofs.lemmas.List.{append-nil, length-map}
 use Rattle.std.proofs.lemmas.List.Elements.{All-head, All-tail}
@@ -11,16 +11,16 @@ use Rattle.std.proofs.lemmas.Bool.{cond-true}
 use Rattle.fd_kinds.specs.declared.row.Row.{Row}
 use Rattle.fd_kinds.specs.declared.row.Numbered.{Numbered}
 use Rattle.fd_kinds.specs.declared.batch.NumberedBatch.{NumberedBatch}
-use Rattle.fd_kinds.specs.declared.limits.TheConstants.{BLOCK_BYTES_LIMIT, MOST_BATCH_BYTES}
+use Rattle.fd_kinds.specs.declared.limits.TheConstants.{BLOCK_BYTES_LIMIT}
 use Rattle.fd_kinds.specs.History.{History, IsSmall}
 use Rattle.fd_kinds.specs.Parts.{PartMeaning, loose_part, with_number, rows_of}
 use Rattle.fd_kinds.specs.RowOrder.{row_cmp}
 use Rattle.fd_kinds.specs.RowSize.{row_size}
-use Rattle.fd_shelf.specs.Books.{Book, Shelved, HasSmallBatches, IsUsed, has_number, bytes_of, rows_in as rows_of_parts, all_parts}
+use Rattle.fd_shelf.specs.Books.{Book, Shelved, HasSmallBatches, IsUsed, has_number, bytes_of, rows_in as rows_of_parts}
 use Rattle.fd_shelf.specs.Histories.{hist, batch_at, in_row_order}
 use Rattle.fd_wal.specs.Frames.{rows_size, batches_size, IsBatch}
 use Rattle.fd_wal.specs.Runs.{rows_in, AreNumberedFrom}
-use Rattle.fd_open.specs.Shelving.{parts_from, with_parts, Shelves}
+use Rattle.fd_open.specs.Shelving.{parts_from, Shelves}
 
 -- ---- the part of one batch
 

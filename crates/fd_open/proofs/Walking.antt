@@ -1,29 +1,23 @@
 -- Going from block to block.
-use Rattle.std.proofs.Common.{◌≡◌, ℕ, ◌+◌, ◌<◌, ◌≤◌, inl, inr, ⊎_elim, Bool, true, false, List, [], ◌∷◌, ◌++◌, length, refl, sym, ◌∙◌, ap, subst, arith, append_assoc, length-append}
+use Rattle.std.proofs.Common.{◌≡◌, ℕ, ◌+◌, ◌<◌, ◌≤◌, ⊎_elim, Bool, true, false, List, [], ◌∷◌, ◌++◌, length, refl, sym, ◌∙◌, ap, subst, arith, length-append}
 use Rattle.std.specs.Prelude.{Option, Some, None}
-use Rattle.std.specs.List.{sum_by}
-use Rattle.std.proofs.lemmas.List.{append-nil, length-map}
-use Rattle.std.proofs.lemmas.List.Sums.{sum_by-append}
 use Rattle.std.proofs.lemmas.Bool.{cases_lt}
-use Rattle.fd_kinds.specs.declared.row.Row.{Row}
 use Rattle.fd_kinds.specs.History.{History}
 use Rattle.fd_kinds.specs.Parts.{PartMeaning}
 use Rattle.fd_device.specs.Disks.{Files}
-use Rattle.fd_device.specs.declared.files.FileId.{FileId}
 use Rattle.fd_shelf.specs.Books.{Book, Shelved}
 use Rattle.fd_shelf.specs.Histories.{hist}
 use Rattle.fd_wal.specs.Frames.{Frame}
 use Rattle.fd_wal.specs.Logs.{history_of, is_rotated, IsClosed, IsLog}
 use Rattle.fd_wal.specs.Runs.{rows_in}
-use Rattle.fd_keeper.specs.Blocks.{Block, Logged, log_of, seal_of, history_in, IsLogged, LeadOn, Recovers, recovered, IsDamagedBlock, IsDamagedAt}
+use Rattle.fd_keeper.specs.Blocks.{Block, Logged, log_of, seal_of, history_in, IsLogged, Recovers, IsDamagedBlock}
 use Rattle.fd_open.specs.declared.cause.OpenCause.{OpenCause}
 use Rattle.fd_open.specs.declared.cause.OpenCause.TheVariants.{DiskFault, Damaged, NoMemory}
 use Rattle.fd_open.specs.declared.reading.LogFound.{LogFound}
 use Rattle.fd_open.specs.declared.tail.Tail.{Tail}
-use Rattle.fd_open.specs.declared.counting.Found.{Found}
-use Rattle.fd_open.specs.Barriers.{IsDurableAt, IsDurableBelow, IsRead, Quiet}
+use Rattle.fd_open.specs.Barriers.{IsDurableAt, IsDurableBelow, Quiet}
 use Rattle.fd_open.specs.Causes.{TellsBlock, TellsDamage}
-use Rattle.fd_open.specs.Counting.{IsFoundIn, IsFound, CountsUpto, IsCountOf, CountsBlock, Counts}
+use Rattle.fd_open.specs.Counting.{IsFoundIn}
 use Rattle.fd_open.specs.Shelving.{parts_from, blocks_from, book_of, with_parts, Shelves, IsShelfOf, IsUpto, tail_if, tail_of, EndsAt, AddsBlock, Reads}
 use Rattle.fd_open.proofs.Calls.{quiet_then}
 use Rattle.fd_open.proofs.LogLimits.{found_numbered}
@@ -50,6 +44,38 @@ adds_block files old new found tail unsealed is shelves tail_is =
           subst (λ (b : Bool). Shelves (history_of is.frames) b old new) is.tells.rotated
           (subst (λ (h : History). Shelves h found.replayed.rotated old new) numbered.rows shelves);
     }
+
+-- what is behind the blocks of a shelf stays
+pub alone_with : (rotated : Bool) (parts : List PartMeaning) (book : Book) → (with_parts rotated parts book).stragglers ≡ book.stragglers
+alone_with true parts book = refl
+alone_with false parts book = refl
+
+pub shelves_alone : (batches : History) (rotated : Bool) (old new : Shelved) → Shelves batches rotated old new → old.book.stragglers ≡ [] → new.book.stragglers ≡ []
+shelves_alone batches rotated old new shelves alone = ap (λ (b : Book). b.stragglers) shelves.book ∙ alone_with rotated (parts_from (old.mark + 1) batches) old.book ∙ alone
+
+module _ {D : Type 0} (honest : D → Type 0) (seen : D → Files) (may_leave : D → Files → Type 0) (moment : D → ℕ) (left_since : D → ℕ → Files → Type 0)
+    (old mid : D) (quiet : Quiet honest seen may_leave moment left_since old mid) (shelf : Shelved) (block first : ℕ) (block_is : block ≡ length shelf.book.closed) where
+  -- the files of a block that were synced are on the disk after the calls that read them
+  pub durable_here : (new : D) → Quiet honest seen may_leave moment left_since mid new → honest old → IsDurableAt block (seen old) (may_leave mid) → IsDurableAt (length shelf.book.closed) (seen old) (may_leave new)
+  durable_here new next h durable image left f is = durable image (next.fewer (quiet.honesty.0 h) image left) f (is ∙ sym block_is)
+
+  module _ (first_is : first ≡ shelf.mark + 1) where
+    pub adds_here : (new : Shelved) (found : LogFound) (tail : Option Tail) → honest old → (honest mid → IsClosed (seen mid (seal_of block))) → (honest mid → IsFoundIn (seen mid (log_of block)) first found)
+        → Shelves (rows_in found.replayed.batches) found.replayed.rotated shelf new → tail ≡ tail_of found → AddsBlock (seen old) shelf new tail
+    adds_here new found tail h unsealed is shelves tail_is =
+        let h_mid = quiet.honesty.0 h in
+        subst (λ (files : Files). AddsBlock files shelf new tail) (quiet.same h)
+        (adds_block (seen mid) shelf new found tail
+          (subst (λ (n : ℕ). IsClosed (seen mid (seal_of n))) block_is (unsealed h_mid))
+          (subst (λ (n : ℕ). IsFoundIn (seen mid (log_of n)) (shelf.mark + 1) found) block_is (subst (λ (n : ℕ). IsFoundIn (seen mid (log_of block)) n found) first_is (is h_mid)))
+          shelves
+          tail_is)
+
+    pub told_here : (cause : OpenCause) → honest old → (honest mid → TellsBlock (seen mid) block first cause) → TellsBlock (seen old) (length shelf.book.closed) (shelf.mark + 1) cause
+    told_here cause h tells =
+        subst (λ (files : Files). TellsBlock files (length shelf.book.closed) (shelf.mark + 1) cause) (quiet.same h)
+        (subst (λ (n : ℕ). TellsBlock (seen mid) n (shelf.mark + 1) cause) block_is
+        (subst (λ (n : ℕ). TellsBlock (seen mid) block n cause) first_is (tells (quiet.honesty.0 h))))
 
 -- ---- block after block
 

@@ -26,6 +26,11 @@ blocks_from first (block ∷ blocks) = parts_from first (batches_in block) ∷ b
 abbrev pub book_of : List Block → List Frame → Book
 book_of closed active = record { closed = blocks_from 1 closed; active = parts_from (1 + length (history_in closed)) (history_of active); stragglers = [] }
 
+-- the last number of each block of logs, behind so many numbers
+abbrev pub ends_behind : ℕ → List Block → List ℕ
+ends_behind before [] = []
+ends_behind before (block ∷ blocks) = (before + length (batches_in block)) ∷ ends_behind (before + length (batches_in block)) blocks
+
 -- A shelf has the batches of blocks: each closed block of the one is a closed block of the other, with its numbers.
 pub record IsShelfOf (closed : List Block) (active : List Frame) (shelf : Shelved) : Type 0 where
   pub book : shelf.book ≡ book_of closed active

@@ -191,6 +191,7 @@ pub fn reopen<D: Disk>(alloc: Global, disk: D) -> Result<Reopened<D>, NotOpened<
         Ok(gate) => {
             let block = shelf.active();
             let synced = last_number(&shelf);
+            shelf.is_in_order();
             let keeper = Keeper::resume(disk, block, gate, synced);
             Ok(Reopened { shelf, keeper })
         }

@@ -52,7 +52,7 @@ fn add_batches(shelf: &mut Shelf<Part>, batches: &[NumberedBatch]) -> Result<(),
     ensures added { OnOk result (Shelves (rows_in batches.now) false shelf.old shelf.new) }
 {
     let mut rest = batches;
-    while let [batch, others @ ..] = rest {
+    while let Some((batch, others)) = rest.split_first() {
         add_batch(shelf, batch)?;
         rest = others;
     }

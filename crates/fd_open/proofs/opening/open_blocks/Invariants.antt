@@ -1,4 +1,4 @@
-use Rattle.std.proofs.Common.{◌≡◌, ◌-◌, ◌^◌, length, List}
+use Rattle.std.proofs.Common.{◌≡◌, ◌-◌, ◌^◌}
 use Rattle.fd_open.proofs.Walking.{Walked}
 use Rattle.fd_open.proofs.opening.open_blocks.Given as goal
 

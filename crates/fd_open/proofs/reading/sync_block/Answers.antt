@@ -1,5 +1,5 @@
 use Rattle.fd_open.proofs.Calls.{quiet_then}
-use Rattle.fd_open.proofs.BlockReads.{three_files, still_durable, same_durable}
+use Rattle.fd_open.proofs.BlockReads.{three_files, same_durable}
 use Rattle.fd_open.proofs.reading.sync_block.Goals as goal
 
 pub returns-in_err-sync_file-2-clause-quiet : goal.returns-in_err-sync_file-2-clause-quiet

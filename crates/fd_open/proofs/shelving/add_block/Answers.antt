@@ -1,9 +1,8 @@
-use Rattle.std.proofs.Common.{◌≡◌, ◌+◌, ◌<◌, ◌^◌, ℕ, List, length, ap, sym, ◌∙◌, subst, arith}
+use Rattle.std.proofs.Common.{◌≡◌, ◌+◌, ◌<◌, List, length, ap, sym, ◌∙◌, subst, arith}
 use Rattle.std.specs.List.{All}
 use Rattle.std.proofs.lemmas.List.{length-map}
 use Rattle.fd_kinds.specs.declared.batch.NumberedBatch.{NumberedBatch}
 use Rattle.fd_kinds.specs.declared.limits.TheConstants.{BLOCK_BYTES_LIMIT}
-use Rattle.fd_kinds.specs.Parts.{PartMeaning}
 use Rattle.fd_shelf.specs.Books.{Book, Shelved, IsUsed}
 use Rattle.fd_wal.specs.Frames.{batches_size, IsBatch}
 use Rattle.fd_wal.specs.Runs.{rows_in, AreNumberedFrom}

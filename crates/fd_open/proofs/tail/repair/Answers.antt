@@ -1,4 +1,4 @@
-use Rattle.std.proofs.Common.{length, arith, sym, ap, ◌∙◌, refl}
+use Rattle.std.proofs.Common.{refl}
 use Rattle.fd_device.specs.Moments.{moments_joined, moments_weaker}
 use Rattle.fd_keeper.specs.Blocks.{RecoversTo, recovered, log_of}
 use Rattle.fd_open.proofs.Repairs.{cut_images, gate_images, rests_at_end, gate_has_place, others_joined, others_followed, durable_after}
