@@ -66,10 +66,10 @@ module _ {D : Type 0} (honest : D → Type 0) (seen : D → Files) (may_leave : 
         let h_mid = quiet.honesty.0 h in
         subst (λ (files : Files). AddsBlock files shelf new tail) (quiet.same h)
         (adds_block (seen mid) shelf new found tail
-          (subst (λ (n : ℕ). IsClosed (seen mid (seal_of n))) block_is (unsealed h_mid))
-          (subst (λ (n : ℕ). IsFoundIn (seen mid (log_of n)) (shelf.mark + 1) found) block_is (subst (λ (n : ℕ). IsFoundIn (seen mid (log_of block)) n found) first_is (is h_mid)))
-          shelves
-          tail_is)
+        (subst (λ (n : ℕ). IsClosed (seen mid (seal_of n))) block_is (unsealed h_mid))
+        (subst (λ (n : ℕ). IsFoundIn (seen mid (log_of n)) (shelf.mark + 1) found) block_is (subst (λ (n : ℕ). IsFoundIn (seen mid (log_of block)) n found) first_is (is h_mid)))
+        shelves
+        tail_is)
 
     pub told_here : (cause : OpenCause) → honest old → (honest mid → TellsBlock (seen mid) block first cause) → TellsBlock (seen old) (length shelf.book.closed) (shelf.mark + 1) cause
     told_here cause h tells =

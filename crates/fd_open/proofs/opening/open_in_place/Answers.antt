@@ -91,4 +91,4 @@ returns-clause-settled g c = λ h was.
     let done = c.in_ok-repair.ensures in
     settled_after block (d.seen mid) (d.seen c.repair.new.disk) (d.may_leave mid) (d.may_leave c.repair.new.disk) (done.others h_mid) (done.crash h_mid) (done.durable h_mid here.durable)
     (durable_from d.honest d.seen d.may_leave d.moment d.left_since old mid h blocks.quiet (block + 1)
-      (subst (λ (n : ℕ). IsDurableFrom (n + 1) (d.seen old) (d.may_leave old)) (sym c.active.ensures) was))
+    (subst (λ (n : ℕ). IsDurableFrom (n + 1) (d.seen old) (d.may_leave old)) (sym c.active.ensures) was))
