@@ -1,0 +1,11 @@
+pub mod BlockEnds
+pub mod BlockReads
+pub mod Calls
+pub mod CountWalks
+pub mod Damage
+pub mod LogEnds
+pub mod LogLimits
+pub mod Openings
+pub mod Repairs
+pub mod Shelves
+pub mod Walking

@@ -1,0 +1,5 @@
+pub mod Barriers
+pub mod Causes
+pub mod Counting
+pub mod Opens
+pub mod Shelving
