@@ -26,8 +26,9 @@ abbrev pub HasDrawn : View → Type 0
 HasDrawn v = Holds v.seen.history (in_order v.draws.own)
 
 -- A call that draws and loads nothing: the seen history grows and all else that was loaded stays; the own numbers with their
--- batches stay, and stand in that history; each book that the seat knew it still knows, and so what the rule says that later books keep of it; turns that
--- were given back and holders that were found come last.
+-- batches stay, and where the seen history had them, as far as it reached, so has the new one; each book that the seat knew
+-- it still knows, and so what the rule says that later books keep of it; turns that were given back and holders that were
+-- found come last.
 pub record Kept (old new : View) : Type 0 where
   pub grows : Grows old.seen.history new.seen.history
   pub seen : new.seen ≡ with_history new.seen.history old.seen
