@@ -1,5 +1,5 @@
 -- What a sealed part in place of a run comes to, on plain data.
-use Rattle.std.proofs.Common.{◌≡◌, ◌≢◌, ℕ, ◌+◌, ◌-◌, ◌<◌, ◌≤◌, List, [], ◌∷◌, ◌++◌, length, sym, refl, ap, ◌∙◌, subst, ⊎_elim, arith, IsPermutation}
+use Rattle.std.proofs.Common.{◌≡◌, ◌≢◌, ℕ, ◌+◌, ◌-◌, ◌<◌, ◌≤◌, List, [], ◌∷◌, ◌++◌, length, sym, refl, ap, ◌∙◌, subst, ⊎_elim, arith, IsPermutation, Result, Ok, Err, IfOk}
 use Rattle.std.proofs.lemmas.Bool.{cases_lt}
 use Rattle.fd_kinds.specs.Parts.{PartMeaning}
 use Rattle.fd_shelf.specs.Books.{Book, rows_in}
@@ -20,7 +20,13 @@ use Rattle.fd_pool.specs.Lists.{IsRun, SeenRows}
 use Rattle.fd_pool.specs.Swaps.{HasSwapped}
 use Rattle.fd_pool.specs.Turns.{Turned}
 use Rattle.fd_pooled.specs.Compactions.{Ends, FoundFew, HasCompacted, HasRun, HasSealed, Puts, WasNotPut, run_length}
+use Rattle.fd_pooled.specs.Steps.{Looks}
 use Rattle.fd_pooled.proofs.Changes.{changed, more_blocks}
+use Rattle.fd_pooled.proofs.Passing.{looks_kept, looks_scanned, looks_then}
+
+pub if_ok_then : {A E : Type 0} {X Y : A → Type 0} (r : Result A E) → ((a : A) → X a → Y a) → IfOk r X → IfOk r Y
+if_ok_then (Ok a) f x = f a x
+if_ok_then (Err e) f x = tt
 
 some_long : {A : Type 0} (xs : List A) → 0 < length xs → xs ≢ []
 some_long [] long = λ e. omega (arith, long)
@@ -117,6 +123,10 @@ module _ (seats : ℕ) (old scanned lifted : View) (l : ℕ) (scan : IsScan seat
   -- the floor is at least the limit
   pub floor : l ≤ listed.pinning.raised
   floor = let same = ap (λ (p : Pinning). p.raised) turned.kept.pinning in let is = ap (λ (v : View). v.pinning.raised) raised in omega (arith, same, is)
+
+  -- nothing but marks was loaded
+  pub looks_listed : Looks old listed
+  looks_listed = looks_then old lifted listed (subst (λ (v : View). Looks old v) (sym raised) (looks_scanned seats old l scanned scan)) (looks_kept lifted listed turned.kept)
 
   pub compacted : (done : Compaction) (new : View) → l ≤ g.mark → Ends l g listed done new → HasCompacted seats old done new
   compacted done new under ends = record { l = l; g = g; listed = listed; lists = record { scanned = scanned; scan = scan; turned = subst (λ (v : View). Turned v g listed) raised turned; low = under }; ends = ends }

@@ -1,13 +1,16 @@
 -- What the steps of one call come to, on plain data.
-use Rattle.std.proofs.Common.{◌≡◌, ℕ, ◌+◌, ◌<◌, ◌≤◌, List, [], ◌∷◌, ◌++◌, length, sym, refl, ap, ◌∙◌, subst, inl, inr, arith, append_assoc}
+use Rattle.std.proofs.Common.{◌≡◌, ℕ, ◌+◌, ◌<◌, ◌≤◌, List, [], ◌∷◌, ◌++◌, length, map, flat_map, sym, refl, ap, ◌∙◌, subst, inl, inr, arith, append_assoc}
+use Rattle.std.proofs.lemmas.List.{map-append}
+use Rattle.std.proofs.lemmas.List.Concat.{flat_map-cons}
 use mathlib.Core.List.{append-nil}
+use Rattle.fd_kinds.specs.declared.row.Numbered.{Numbered}
 use Rattle.fd_kinds.specs.declared.query.Query.{Query}
 use Rattle.fd_kinds.specs.declared.store.Seen.{Seen}
 use Rattle.fd_kinds.specs.History.{History, upto}
 use Rattle.fd_kinds.specs.Meaning.{meaning}
-use Rattle.fd_kinds.specs.Parts.{PartMeaning}
+use Rattle.fd_kinds.specs.Parts.{PartMeaning, rows_of}
 use Rattle.fd_kinds.specs.Stores.{Grows, Holds, Written}
-use Rattle.fd_shelf.specs.Books.{Book}
+use Rattle.fd_shelf.specs.Books.{Book, rows_in}
 use Rattle.fd_shelf.specs.Histories.{hist}
 use Rattle.fd_rule.specs.Kinds.DrawnLoad.{with_drawn}
 use Rattle.fd_rule.specs.Kinds.FloorRaise.{with_floor}
@@ -20,6 +23,7 @@ use Rattle.fd_pins.specs.Pinned.{with_pinned}
 use Rattle.fd_pins.specs.Scans.{IsScan, with_limit}
 use Rattle.fd_pool.specs.Kept.{HasDrawn, Kept, in_order}
 use Rattle.fd_pool.specs.Sweeps.{HasSwept}
+use Rattle.fd_pool.specs.Turns.{Turned}
 use Rattle.fd_pool.specs.declared.sweeps.Sweep.{Sweep}
 use Rattle.fd_pool.specs.declared.sweeps.Sweep.TheVariants.{Swept, Busy, NoMemory}
 use Rattle.fd_pooled.specs.Calls.{HasFailed, HasRead}
@@ -184,6 +188,10 @@ upto_more m w (Swept mark) low upto = omega (arith, low, upto)
 upto_more m w (Busy holder) low upto = tt
 upto_more m w NoMemory low never = absurd never
 
+-- the calls between a pin and its end
+pub has_pinned : (v p l x : View) (w : ℕ) (g : Given) → Loaded w v → p ≡ with_pinned w v → Turned p g l → x ≡ without_pin l → HasPinned v w g x
+has_pinned v p l x w g loaded pinned turned becomes = record { loaded = loaded; listed = l; turned = subst (λ (y : View). Turned y g l) pinned turned; becomes = becomes }
+
 passes_pinned : (v : View) (w : ℕ) (g : Given) (x : View) → HasPinned v w g x → Passes v x
 passes_pinned v w g x p = subst (λ (y : View). Passes v y) (sym p.becomes)
     (passes_then v p.listed (without_pin p.listed) (passes_then v (with_pinned w v) p.listed (passes_pin v w) (looks_kept (with_pinned w v) p.listed p.turned.kept).passes) (passes_unpin p.listed))
@@ -251,6 +259,15 @@ module _ (seats : ℕ) (v : View) (after drawn : ℕ) (allowed : after ≤ drawn
     synceds = pinned_synceds u w g x p ∙ k.synceds;
     pins = inr (w, pinned_pins u w g x p ∙ ap (λ ws. ws ++ w ∷ []) k.pins);
   }
+
+-- the rows of parts that are seen through a list
+pub rows_of_seen : {I : Type 0} (part : I → PartMeaning) (seen : List I) → flat_map (λ i. rows_of (part i).rows) seen ≡ rows_of (rows_in (map (λ i. part i) seen))
+rows_of_seen part [] = refl
+rows_of_seen part (i ∷ is) =
+    flat_map-cons (λ i. rows_of (part i).rows) i is
+    ∙ ap (λ rows. rows_of (part i).rows ++ rows) (rows_of_seen part is)
+    ∙ sym (map-append (λ (n : Numbered). n.row) (part i).rows (rows_in (map (λ i. part i) is)))
+    ∙ ap rows_of (sym (flat_map-cons (λ (p : PartMeaning). p.rows) (part i) (map (λ i. part i) is)))
 
 pub kept_self : (v : View) → Kept v v
 kept_self v = record { grows = grows_same v.seen.history; seen = refl; own = refl; holds = λ h. h; known = []; books = refl; turns = []; given = sym (append-nil v.tries.given); busy = []; refused = sym (append-nil v.tries.refused); place = refl; pinning = refl }

@@ -47,7 +47,7 @@ most_in w [] (y ∷ ys) (inl is) = omega (arith, is)
 most_in w [] (y ∷ ys) (inr more) = let h = most_in w [] ys more in omega (arith, h)
 most_in w (x ∷ xs) ys here = let h = most_in w xs ys here in omega (arith, h)
 
-in_last : (w : ℕ) (xs : List ℕ) → In w (xs ++ w ∷ [])
+pub in_last : (w : ℕ) (xs : List ℕ) → In w (xs ++ w ∷ [])
 in_last w [] = inl refl
 in_last w (x ∷ xs) = inr (in_last w xs)
 

@@ -49,9 +49,9 @@ impl<'a, R: Wait> Pooled<'a, R> {
     /// memory.
     pub fn close(self) -> Seat<'a, Part>
         ensures rest { IsResting (seat_state result) }
-        ensures table { seat_table result ≡ self.table }
-        ensures seats { seat_count result ≡ self.seats }
-        ensures view { seat_view result ≡ self.view }
+        ensures table { seat_table result ≡ self.entry.table }
+        ensures seats { seat_count result ≡ self.entry.seats }
+        ensures view { seat_view result ≡ self.entry.view }
     {
         let Pooled { rt: _, seat } = self;
         seat
