@@ -1,4 +1,4 @@
-use Rattle.std.proofs.Common.{◌≡◌, List, Err, sym, subst, ap, ◌∙◌}
+use Rattle.std.proofs.Common.{rules, ◌≡◌, ℕ, List, Err, sym, subst, ap, ◌∙◌}
 use Rattle.std.proofs.lemmas.Result.{err_from_is_err_and}
 use Rattle.fd_kinds.specs.declared.row.Row.{Row}
 use Rattle.fd_kinds.specs.declared.store.WriteRefusal.TheVariants.{NoMemory}
@@ -6,6 +6,7 @@ use Rattle.fd_kinds.specs.Parts.{rows_of}
 use Rattle.fd_kinds.proofs.PartLaws.{rows_of_with_number}
 use Rattle.fd_part.specs.Parts.{part_meaning}
 use Rattle.fd_rule.specs.Seats.{seat_count}
+use Rattle.fd_pool.specs.Sweeps.{HasSwept}
 use Rattle.fd_pool.specs.Writes.{Took}
 use Rattle.fd_pooled.specs.Calls.{HasWrittenOr}
 use Rattle.fd_pooled.proofs.Passing.{kept_self}
@@ -18,12 +19,13 @@ returns-in_err-part-clause-gives g c = let v = c.args.seat.now.inner.me.0 in let
 
 pub returns-in-Ok-clause-gives : goal.returns-in-Ok-clause-gives
 returns-in-Ok-clause-gives g c = let ready = c.ready.new.seat.inner.me.0 in let landed = c.draw_and_land.new.seat.inner.me.0 in
-    let rows : rows_of (part_meaning c.in_ok-part.part).rows ≡ c.args.batch.rows = ap (λ p. rows_of p.rows) c.in_ok-part.ensures ∙ rows_of_with_number 0 c.args.batch.rows in record {
+    let rows : rows_of (part_meaning c.in_ok-part.part).rows ≡ c.args.batch.rows = ap (λ p. rows_of p.rows) c.in_ok-part.ensures ∙ rows_of_with_number 0 c.args.batch.rows in
+    let count : seat_count c.draw_and_land.new.seat ≡ seat_count c.args.seat.now = search rules in record {
       sorted = c.batch_laws.ensures.sorted c.args.batch.rows c.args.batch.sorted;
       ready = ready;
       waited = c.ready.ensures.kept;
       landed = landed;
       took = subst (λ (rs : List Row). Took ready rs c.in-Ok.receipt.number landed) rows c.in-Ok.ensures.ok;
       sweep = c.try_sweep.result;
-      swept = c.try_sweep.ensures.swept;
+      swept = subst (λ (n : ℕ). HasSwept n landed c.try_sweep.result c.try_sweep.new.seat.inner.me.0) count c.try_sweep.ensures.swept;
     }
