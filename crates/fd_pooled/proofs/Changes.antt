@@ -2,10 +2,10 @@
 use Rattle.std.proofs.Common.{◌≡◌, ◌≢◌, ◌⊎◌, ℕ, zero, suc, ◌+◌, ◌-◌, ◌<◌, ◌≤◌, Bool, true, false, if◌then◌else◌, List, [], ◌∷◌, ◌++◌, length, flat_map, sym, refl, ap, ◌∙◌, subst, ⊎_elim, inl, inr, arith, Option, Some, None, slice_get, true≢false}
 use Rattle.std.proofs.lemmas.Bool.{cases_lt}
 use Rattle.std.proofs.lemmas.Option.{slice_get_within}
-use Rattle.fd_kinds.specs.Parts.{PartMeaning, IsPart}
+use Rattle.fd_kinds.specs.Parts.{PartMeaning}
 use Rattle.fd_shelf.specs.Books.{Any, Book, Each, Follows, IsLoose, IsSealed, SealedFirst, blocks_of, settled_parts}
 use Rattle.fd_shelf.specs.Marks.{IsBook}
-use Rattle.fd_shelf.specs.Numbers.{Holds, HoldsSealed, IsAt, IsClosedBlock, IsIn, IsInSealed, Keeps, StandsIn, first_unsealed}
+use Rattle.fd_shelf.specs.Numbers.{Holds, HoldsSealed, IsAt, IsIn, IsInSealed, Keeps, StandsIn, first_unsealed}
 use Rattle.fd_shelf.specs.Replacement.{HoldsLoose, IsChanged, IsInLoose, IsLeast}
 use Rattle.fd_shelf.specs.Steps.{highest, lowest}
 

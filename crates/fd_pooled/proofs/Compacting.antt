@@ -1,5 +1,5 @@
 -- What a sealed part in place of a run comes to, on plain data.
-use Rattle.std.proofs.Common.{◌≡◌, ◌≢◌, ℕ, ◌+◌, ◌-◌, ◌<◌, ◌≤◌, List, [], ◌∷◌, ◌++◌, length, sym, refl, ap, ◌∙◌, subst, ⊎_elim, arith, IsPermutation, Result, Ok, Err, IfOk}
+use Rattle.std.proofs.Common.{◌≡◌, ◌≢◌, ℕ, ◌+◌, ◌-◌, ◌<◌, ◌≤◌, List, [], ◌∷◌, ◌++◌, length, sym, ap, ◌∙◌, subst, ⊎_elim, arith, IsPermutation, Result, Ok, Err, IfOk}
 use Rattle.std.proofs.lemmas.Bool.{cases_lt}
 use Rattle.fd_kinds.specs.Parts.{PartMeaning}
 use Rattle.fd_shelf.specs.Books.{Book, rows_in}
@@ -19,7 +19,7 @@ use Rattle.fd_pins.specs.Scans.{IsScan, least}
 use Rattle.fd_pool.specs.Lists.{IsRun, SeenRows}
 use Rattle.fd_pool.specs.Swaps.{HasSwapped}
 use Rattle.fd_pool.specs.Turns.{Turned}
-use Rattle.fd_pooled.specs.Compactions.{Ends, FoundFew, HasCompacted, HasRun, HasSealed, Puts, WasNotPut, run_length}
+use Rattle.fd_pooled.specs.Compactions.{Ends, FoundFew, HasCompacted, HasRun, HasSealed, Puts, run_length}
 use Rattle.fd_pooled.specs.Steps.{Looks}
 use Rattle.fd_pooled.proofs.Changes.{changed, more_blocks}
 use Rattle.fd_pooled.proofs.Passing.{looks_kept, looks_scanned, looks_then}

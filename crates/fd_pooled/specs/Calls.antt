@@ -21,7 +21,7 @@ use Rattle.fd_pool.specs.Sweeps.{HasSwept}
 use Rattle.fd_pool.specs.Writes.{Took, WasSpent}
 use Rattle.fd_pool.specs.declared.sweeps.Sweep.{Sweep}
 use Rattle.fd_pooled.specs.Pooling.{PooledView}
-use Rattle.fd_pooled.specs.Steps.{Later, Passes, IsUpto}
+use Rattle.fd_pooled.specs.Steps.{Passes, IsUpto}
 
 -- it is the same seat at the same table
 pub record IsSame (old new : PooledView) : Type 0 where

@@ -1,14 +1,13 @@
 -- What the steps of one call of a store do to what its seat knows.
-use Rattle.std.specs.Prelude.{◌≡◌, ℕ, ◌≤◌, Bool, true, List, [], ◌∷◌, ◌++◌}
+use Rattle.std.specs.Prelude.{◌≡◌, ℕ, ◌≤◌, List, ◌++◌}
 use Rattle.fd_kinds.specs.Parts.{PartMeaning}
 use Rattle.fd_kinds.specs.Stores.{Grows}
 use Rattle.fd_shelf.specs.Books.{Book}
-use Rattle.fd_rule.specs.Kinds.DrawnLoad.{with_drawn}
 use Rattle.fd_rule.specs.Kinds.MarkLoad.{Loaded, with_mark}
 use Rattle.fd_rule.specs.Kinds.PinDeparture.{without_pin}
 use Rattle.fd_rule.specs.View.{View, Given}
 use Rattle.fd_pins.specs.Pinned.{with_pinned}
-use Rattle.fd_pool.specs.Kept.{HasDrawn, Kept}
+use Rattle.fd_pool.specs.Kept.{HasDrawn}
 use Rattle.fd_pool.specs.Lists.{IsListed}
 use Rattle.fd_pool.specs.Sweeps.{HasSwept}
 use Rattle.fd_pool.specs.Turns.{Turned}

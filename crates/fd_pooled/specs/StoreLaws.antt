@@ -1,5 +1,5 @@
 -- What the calls of a store that many share tell as those of any store.
-use Rattle.std.proofs.Common.{◌≡◌, ◌⊎◌, ℕ, ◌+◌, ◌-◌, ◌<◌, ◌≤◌, max, List, [], ◌∷◌, ◌++◌, length, Result, Ok, Err, Option, IfSome, refl, sym, ap, ◌∙◌, subst, inl, inr, arith, append_assoc}
+use Rattle.std.proofs.Common.{◌≡◌, ℕ, ◌+◌, ◌-◌, ◌<◌, ◌≤◌, List, [], ◌∷◌, ◌++◌, length, Result, Ok, Err, Option, IfSome, refl, sym, ap, ◌∙◌, subst, inl, inr, arith, append_assoc}
 use Rattle.std.proofs.lemmas.Option.{slice_get_past}
 use mathlib.Core.List.{append-nil}
 use Rattle.fd_kinds.specs.declared.row.Row.{Row}
@@ -11,20 +11,19 @@ use Rattle.fd_kinds.specs.declared.store.ReadRefusal.TheVariants as read
 use Rattle.fd_kinds.specs.declared.store.Seen.{Seen}
 use Rattle.fd_kinds.specs.declared.stand.Stand.{Stand}
 use Rattle.fd_kinds.specs.History.{History}
-use Rattle.fd_kinds.specs.Stores.{Grows, Holds, IsHeld, ReadFacts, StandFacts, Tops, WriteFacts, Written}
+use Rattle.fd_kinds.specs.Stores.{Grows, Holds, ReadFacts, StandFacts, Tops, WriteFacts, Written}
 use Rattle.fd_shelf.specs.Histories.{in_row_order}
-use Rattle.fd_rule.specs.Kinds.DrawnLoad.{with_drawn}
 use Rattle.fd_rule.specs.Lists.{AllUpto, In}
 use Rattle.fd_rule.specs.Lists.{Tops as IsAbove}
 use Rattle.fd_rule.specs.View.{Knowledge, View}
-use Rattle.fd_pool.specs.Kept.{HasDrawn, Kept, in_order, with_history}
+use Rattle.fd_pool.specs.Kept.{HasDrawn, Kept, in_order}
 use Rattle.fd_pool.specs.Sweeps.{HasSwept}
 use Rattle.fd_pool.specs.Writes.{Took}
 use Rattle.fd_pool.specs.declared.sweeps.Sweep.{Sweep}
 use Rattle.fd_pool.specs.declared.sweeps.Sweep.TheVariants.{Swept, Busy, NoMemory}
-use Rattle.fd_pooled.specs.Calls.{HasFailed, HasFoundSpent, HasNotDrawn, HasRead, HasStood, HasWritten, PooledReads, PooledStands, PooledWrites}
+use Rattle.fd_pooled.specs.Calls.{HasWritten, PooledReads, PooledStands, PooledWrites}
 use Rattle.fd_pooled.specs.Pooling.{PooledView, most, seen_by}
-use Rattle.fd_pooled.specs.Steps.{Later, Passes}
+use Rattle.fd_pooled.specs.Steps.{Later}
 
 grows_same : (history : History) → Grows history history
 grows_same history = record { more = []; joined = sym (append-nil history) }
