@@ -1,5 +1,5 @@
 -- What a sealed part in place of a run comes to, on plain data.
-use Rattle.std.proofs.Common.{◌≡◌, ◌≢◌, ℕ, ◌+◌, ◌-◌, ◌<◌, ◌≤◌, List, [], ◌∷◌, ◌++◌, length, sym, ap, ◌∙◌, subst, ⊎_elim, arith, IsPermutation, Result, Ok, Err, IfOk}
+use Rattle.std.proofs.Common.{◌≡◌, ◌≢◌, ℕ, ◌+◌, ◌-◌, ◌<◌, ◌≤◌, List, [], ◌∷◌, ◌++◌, length, map, get_or, sym, refl, ap, ◌∙◌, subst, ⊎_elim, arith, IsPermutation, Result, Ok, Err, IfOk}
 use Rattle.std.proofs.lemmas.Bool.{cases_lt}
 use Rattle.fd_kinds.specs.Parts.{PartMeaning}
 use Rattle.fd_shelf.specs.Books.{Book, rows_in}
@@ -7,7 +7,7 @@ use Rattle.fd_shelf.specs.Books.{Each as AllOf}
 use Rattle.fd_shelf.specs.Numbers.{Keeps}
 use Rattle.fd_shelf.specs.Replacement.{IsChanged, IsLeast}
 use Rattle.fd_shelf.specs.Runs.{AreSealable}
-use Rattle.fd_shelf.specs.Steps.{Placed, highest, level0, lowest, loose_upto}
+use Rattle.fd_shelf.specs.Steps.{Placed, highest, level0, lowest, loose_upto, placed_in}
 use Rattle.fd_compact.specs.Runs.{IsSealOf}
 use Rattle.fd_compact.specs.declared.compaction.Compaction.{Compaction}
 use Rattle.fd_compact.specs.declared.compaction.Compaction.TheVariants.{Compacted, Nothing, Overtaken, Changed}
@@ -27,6 +27,19 @@ use Rattle.fd_pooled.proofs.Passing.{looks_kept, looks_scanned, looks_then}
 pub if_ok_then : {A E : Type 0} {X Y : A → Type 0} (r : Result A E) → ((a : A) → X a → Y a) → IfOk r X → IfOk r Y
 if_ok_then (Ok a) f x = f a x
 if_ok_then (Err e) f x = tt
+
+abbrev first_of : ℕ → List Placed → ℕ
+first_of other [] = other
+first_of other (p ∷ ps) = p.block
+
+first_placed : (n : ℕ) (ps : List PartMeaning) → first_of n (map (placed_in n) ps) ≡ n
+first_placed n [] = refl
+first_placed n (p ∷ ps) = refl
+
+-- the parts of a run are in the active block
+pub first_block : {I : Type 0} (block : I → ℕ) (part : I → PartMeaning) (picked : List I) (x : I) (book : Book) (l : ℕ) → 0 < length picked → x ≡ get_or picked 0 x → map (λ i. placed_in (block i) (part i)) picked ≡ level0 book l → block x ≡ length book.closed
+first_block block part [] x book l some is place = absurd (omega (arith, some))
+first_block block part (y ∷ ys) x book l some is place = ap block is ∙ (ap (first_of (length book.closed)) place ∙ first_placed (length book.closed) (loose_upto book l))
 
 some_long : {A : Type 0} (xs : List A) → 0 < length xs → xs ≢ []
 some_long [] long = λ e. omega (arith, long)
