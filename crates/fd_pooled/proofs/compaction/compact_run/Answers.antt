@@ -7,6 +7,7 @@ use Rattle.fd_part.specs.declared.part.Part.{Part}
 use Rattle.fd_shelf.specs.Steps.{lowest, highest}
 use Rattle.fd_shelf.specs.declared.picks.InBlock.{InBlock}
 use Rattle.fd_compact.specs.Runs.{IsSealOf}
+use Rattle.fd_pooled.specs.Compactions.{Puts}
 use Rattle.fd_pooled.proofs.Compacting.{ends, first_block}
 use Rattle.fd_pooled.proofs.Passing.{looks_self}
 use Rattle.fd_pooled.proofs.compaction.compact_run.Goals as goal
@@ -36,4 +37,5 @@ returns-clause-ends g c given listed = let picked = c.args.picked.now in let par
     (c.in_ok-run.ensures.lo ∙ ap (λ (is : List (InBlock Part)). lowest (map meaning_in is)) same)
     (c.in_ok-run.ensures.hi ∙ ap (λ (is : List (InBlock Part)). highest (map meaning_in is)) same)
     (c.in_ok-run.ensures.rows ∙ sym (length_permutation _ _ c.in_ok-run.ensures.seals.rows))
-    seals c.put_run.result c.put_run.new.seat.inner.me.0 c.put_run.ensures.puts
+    seals c.put_run.result c.put_run.new.seat.inner.me.0
+    (subst (λ (i : InBlock Part). Puts i.block c.in_ok-run.run'.lo c.in_ok-run.run'.hi c.in_ok-run.run'.rows (part_meaning part) c.args.seat.now.inner.me.0 c.put_run.result c.put_run.new.seat.inner.me.0) (sym c.index-parts-0.is) c.put_run.ensures.puts)
