@@ -28,7 +28,7 @@ batch_of parts number (suc count) (suc i) inside =
     let same : number + 1 + i ≡ number + suc i = omega arith in
     batch_of parts (number + 1) count i (omega (arith, inside)) ∙ ap (λ n. Some (batch_at parts n)) same
 
-nth_batch : (book : Book) (mark n : ℕ) → 0 < n → n ≤ mark → slice_get (hist book mark) (n - 1) ≡ Some (batch_at (all_parts book) n)
+pub nth_batch : (book : Book) (mark n : ℕ) → 0 < n → n ≤ mark → slice_get (hist book mark) (n - 1) ≡ Some (batch_at (all_parts book) n)
 nth_batch book mark n some low = let is : 1 + (n - 1) ≡ n = omega (arith, some) in batch_of (all_parts book) 1 mark (n - 1) (omega (arith, some, low)) ∙ ap (λ k. Some (batch_at (all_parts book) k)) is
 
 abbrev value_of : {A : Type 0} → A → Option A → A

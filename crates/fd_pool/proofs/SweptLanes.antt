@@ -5,7 +5,7 @@ use mathlib.Core.Logic.{dite}
 use native.Mathlib.Decide.{ℕ_discrete}
 use Rattle.atomic_table.specs.Table.{rest}
 use Rattle.fd_kinds.specs.Parts.{PartMeaning, loose_part}
-use Rattle.fd_kinds.specs.Stores.{Grows, Written}
+use Rattle.fd_kinds.specs.Stores.{Grows, Holds, Written}
 use Rattle.fd_shelf.specs.Books.{Book, Shelved, all_parts}
 use Rattle.fd_shelf.specs.Histories.{hist}
 use Rattle.fd_shelf.specs.Numbers.{IsIn, IsInSealed, Keeps}
@@ -20,9 +20,10 @@ use Rattle.fd_rule.specs.Tables.{Seated}
 use Rattle.fd_rule.specs.View.{View, Knowledge}
 use Rattle.fd_rule.specs.declared.slot.SlotValue.{SlotValue}
 use Rattle.fd_rule.specs.declared.slot.SlotValue.TheVariants.{Empty, Home, Landed}
-use Rattle.fd_pool.specs.Kept.{with_history}
+use Rattle.fd_pool.specs.Kept.{HasDrawn, in_order, with_history}
 use Rattle.fd_pool.specs.Sweeps.{GaveBack, Sweeping}
 use Rattle.fd_pool.specs.Turns.{InHand}
+use Rattle.fd_pool.proofs.DrawnRows.{taken_drawn}
 use Rattle.fd_pool.proofs.TurnSteps.{grows_then}
 
 or_left : (a b : Bool) → a ≡ true → (a || b) ≡ true
@@ -138,13 +139,15 @@ module _ {P : Type 0} (means : P → PartMeaning) (seats : ℕ) where
   }
 
   pub gave_swept : (v : View) (shelf shelf' : Shelved) (m : Seated P) (at mark : ℕ) (book : Book) → Later shelf v → Grows (hist m.0.turn.book m.0.turn.mark) (hist m.0.turn.book mark) → Sweeping seats (with_book shelf v) m shelf' at → hist book mark ≡ hist m.0.turn.book mark
+      → (HasDrawn m.0 → HasDrawn (with_given book (with_raised mark m.0)))
       → GaveBack v (given_of book (with_raised mark m.0)) (with_given book (with_raised mark m.0))
-  gave_swept v shelf shelf' m at mark book later longer r same = record {
+  gave_swept v shelf shelf' m at mark book later longer r same drawn = record {
     turned = record {
       kept = record {
         grows = grows_then v.seen.history (hist shelf.book shelf.mark) (hist m.0.turn.book mark) later.grows (subst (λ h. Grows h (hist m.0.turn.book mark)) r.past longer);
         seen = ap (λ (k : Knowledge). with_history (hist m.0.turn.book mark) k) r.seen;
         own = r.own;
+        holds = λ h. drawn (subst (λ (d : Knowledge × List Written). Holds d.0.history (in_order d.1)) (λ i. (sym r.seen i, sym r.own i)) (taken_drawn shelf v later h));
         known = book ∷ shelf.book ∷ [];
         books = ap (λ bs. book ∷ bs) r.books;
         turns = given_of book (with_raised mark m.0) ∷ [];
@@ -156,6 +159,8 @@ module _ {P : Type 0} (means : P → PartMeaning) (seats : ℕ) where
       };
       given = ap (λ t. t.given ++ given_of book (with_raised mark m.0) ∷ []) r.tries;
       seen = sym same;
+      others = shelf.book ∷ v.books;
+      book = ap (λ bs. book ∷ bs) r.books;
     };
     refused = ap (λ t. t.refused) r.tries;
   }
@@ -189,6 +194,7 @@ gave_up v shelf book later same = record {
       grows = later.grows;
       seen = refl;
       own = refl;
+      holds = taken_drawn shelf v later;
       known = book ∷ shelf.book ∷ [];
       books = refl;
       turns = given_of book (with_book shelf v) ∷ [];
@@ -200,6 +206,8 @@ gave_up v shelf book later same = record {
     };
     given = refl;
     seen = sym same;
+    others = shelf.book ∷ v.books;
+    book = refl;
   };
   refused = refl;
 }

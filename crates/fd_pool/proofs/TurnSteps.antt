@@ -21,6 +21,7 @@ use Rattle.fd_rule.specs.declared.slot.SlotValue.{SlotValue}
 use Rattle.fd_rule.specs.declared.slot.SlotValue.TheVariants.{Empty}
 use Rattle.fd_pool.specs.Kept.{IsFree, Kept, with_history}
 use Rattle.fd_pool.specs.Turns.{InHand, HasWaited, Turned, with_refusals}
+use Rattle.fd_pool.proofs.DrawnRows.{taken_drawn}
 
 pub grows_same : (history : History) → Grows history history
 grows_same history = record { more = []; joined = sym (append-nil history) }
@@ -73,6 +74,7 @@ turned {P} v shelf m book w same = subst (λ (x : Seated P). Turned v (given_of 
     grows = w.later.grows;
     seen = refl;
     own = refl;
+    holds = taken_drawn shelf (with_refusals w.busy v) w.later;
     known = book ∷ shelf.book ∷ [];
     books = refl;
     turns = given_of book (with_book shelf (with_refusals w.busy v)) ∷ [];
@@ -84,6 +86,8 @@ turned {P} v shelf m book w same = subst (λ (x : Seated P). Turned v (given_of 
   };
   given = refl;
   seen = sym same;
+  others = shelf.book ∷ v.books;
+  book = refl;
 }
 
 -- .. leaves a seat free
@@ -91,13 +95,13 @@ pub turned_free : {P : Type 0} (v : View) (shelf : Shelved) (m m' : Seated P) (b
 turned_free {P} v shelf m m' book w landed is = subst (λ (x : Seated P). IsFree x) (sym is) record { turn = refl; flight = ap (λ (x : Seated P). x.0.draws.flight) w.me ∙ landed; slots = refl }
 
 pub kept_self : (v : View) → Kept v v
-kept_self v = record { grows = grows_same v.seen.history; seen = refl; own = refl; known = []; books = refl; turns = []; given = sym (append-nil v.tries.given); busy = []; refused = sym (append-nil v.tries.refused); place = refl; pinning = refl }
+kept_self v = record { grows = grows_same v.seen.history; seen = refl; own = refl; holds = λ h. h; known = []; books = refl; turns = []; given = sym (append-nil v.tries.given); busy = []; refused = sym (append-nil v.tries.refused); place = refl; pinning = refl }
 
 pub kept_lane : (v : View) (k n : ℕ) → Kept v (with_lane k n v)
-kept_lane v k n = record { grows = grows_same v.seen.history; seen = refl; own = refl; known = []; books = refl; turns = []; given = sym (append-nil v.tries.given); busy = []; refused = sym (append-nil v.tries.refused); place = refl; pinning = refl }
+kept_lane v k n = record { grows = grows_same v.seen.history; seen = refl; own = refl; holds = λ h. h; known = []; books = refl; turns = []; given = sym (append-nil v.tries.given); busy = []; refused = sym (append-nil v.tries.refused); place = refl; pinning = refl }
 
 pub kept_refused : (v w : View) (h : ℕ) → w ≡ with_refusal h v → Kept v w
-kept_refused v w h is = subst (λ x. Kept v x) (sym is) record { grows = grows_same v.seen.history; seen = refl; own = refl; known = []; books = refl; turns = []; given = sym (append-nil v.tries.given); busy = h ∷ []; refused = refl; place = refl; pinning = refl }
+kept_refused v w h is = subst (λ x. Kept v x) (sym is) record { grows = grows_same v.seen.history; seen = refl; own = refl; holds = λ h. h; known = []; books = refl; turns = []; given = sym (append-nil v.tries.given); busy = h ∷ []; refused = refl; place = refl; pinning = refl }
 
 -- calls one after another keep what each keeps
 pub kept_then : (a b c : View) → Kept a b → Kept b c → Kept a c
@@ -105,6 +109,7 @@ kept_then a b c x y = record {
   grows = grows_then a.seen.history b.seen.history c.seen.history x.grows y.grows;
   seen = y.seen ∙ ap (λ k. with_history c.seen.history k) x.seen;
   own = y.own ∙ x.own;
+  holds = λ h. y.holds (x.holds h);
   known = y.known ++ x.known;
   books = y.books ∙ (ap (λ z. y.known ++ z) x.books ∙ sym (append_assoc y.known x.known a.books));
   turns = x.turns ++ y.turns;

@@ -1,6 +1,6 @@
 -- A turn of a call: how it was taken, what is in hand, and what it was given back with.
 use Rattle.std.specs.Prelude.{◌≡◌, ℕ, true, List, [], ◌∷◌, ◌++◌}
-use Rattle.fd_shelf.specs.Books.{Shelved}
+use Rattle.fd_shelf.specs.Books.{Book, Shelved}
 use Rattle.fd_shelf.specs.Histories.{hist}
 use Rattle.fd_rule.specs.Kinds.TurnTry.{Later, with_book}
 use Rattle.fd_rule.specs.Lists.{In}
@@ -34,8 +34,10 @@ pub record IsTaken {P : Type 0} (w : ℕ) (shelf : Shelved) (m : Seated P) : Typ
   pub later : Later shelf view
   pub me : m ≡ (with_book shelf view, (0, Empty) ∷ [])
 
--- One turn was taken in the call, and given back as g. The seat has seen the history of its book.
+-- One turn was taken in the call, and given back as g. The seat has seen the history of its book, and knows the book.
 pub record Turned (old : View) (g : Given) (new : View) : Type 0 where
   pub kept : Kept old new
   pub given : new.tries.given ≡ old.tries.given ++ g ∷ []
   pub seen : new.seen.history ≡ hist g.book g.mark
+  pub others : List Book
+  pub book : new.books ≡ g.book ∷ others

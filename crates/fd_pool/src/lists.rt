@@ -4,7 +4,7 @@ ghost use Rattle.fd_pool.specs.Kept.{IsFree};
 ghost use Rattle.fd_pool.specs.Lists.{IsListed, IsRun};
 ghost use Rattle.fd_pool.specs.Turns.{InHand, Turned, IsTaken};
 ghost use Rattle.fd_rule.specs.Kinds.TurnReturn.{given_of, with_given};
-ghost use Rattle.fd_rule.specs.Lists.{In};
+ghost use Rattle.fd_rule.specs.Lists.{AllUpto, In};
 ghost use Rattle.fd_rule.specs.Seats.{IsSameSeat, seat_state, seat_view};
 ghost use Rattle.fd_rule.specs.View.{Given, settled};
 ghost use Rattle.fd_shelf.specs.Histories.{hist};
@@ -100,7 +100,8 @@ pub fn run_upto<R: Wait, P: Held>(
         × Turned (seat_view seat.old) g (seat_view seat.new)
         × (map (λ i. placed_in i.block (P.means i.part)) picked ≡ level0 g.book limit.now.l)
         × (map (λ i. P.means i.part) picked ≡ loose_upto g.book limit.now.l)
-        × IsRun g limit.now.l (seat_view seat.new).seen.history) }
+        × IsRun g limit.now.l (seat_view seat.new).seen.history
+        × AllUpto g.mark (seat_view seat.old).seen.marks) }
     ensures free { IsFree (seat_state seat.new) }
     ensures same { IsSameSeat seat.old seat.new }
 {

@@ -2,7 +2,7 @@
 ghost use Rattle.std.specs.Prelude.{◌≡◌, ◌≤◌, [], OnOk, IfErr};
 ghost use Rattle.fd_pool.specs.Kept.{IsFree};
 ghost use Rattle.fd_pool.specs.Lists.{SeenRows};
-ghost use Rattle.fd_pool.specs.Swaps.{HasSwapped, Stands};
+ghost use Rattle.fd_pool.specs.Swaps.{HasRefused, HasSwapped, Stands};
 ghost use Rattle.fd_pool.specs.Turns.{InHand, Turned};
 ghost use Rattle.fd_rule.specs.Kinds.TurnReturn.{with_given};
 ghost use Rattle.fd_rule.specs.Seats.{IsSameSeat, seat_state, seat_view};
@@ -85,11 +85,12 @@ pub fn swap<R: Wait, P: Held>(
     ensures err { IfErr result (λ why.
         (g : Given)
         × Turned (seat_view seat.old) g (seat_view seat.new)
-        × HandsBack g.book block lo hi part why) }
+        × HasRefused (seat_view seat.old) block lo hi part why g) }
     ensures free { IsFree (seat_state seat.new) }
     ensures same { IsSameSeat seat.old seat.new }
 {
     let _ = limit;
     let shelf = wait_for_turn(rt, seat);
+    shelf.is_in_order();
     swap_taken(seat, shelf, block, lo, hi, part)
 }

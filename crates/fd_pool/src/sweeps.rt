@@ -1,6 +1,6 @@
 //! One turn that goes over all lanes.
 ghost use Rattle.std.specs.Prelude.{◌≡◌, ◌+◌, ◌<◌, ◌≤◌, [], ◌∷◌};
-ghost use Rattle.fd_pool.specs.Kept.{IsFree};
+ghost use Rattle.fd_pool.specs.Kept.{HasDrawn, IsFree};
 ghost use Rattle.fd_pool.specs.Sweeps.{HasSwept, Sweeping};
 ghost use Rattle.fd_rule.specs.Kinds.MarkRaise.{with_raised};
 ghost use Rattle.fd_rule.specs.Kinds.TurnReturn.{IsWhole, given_of, with_given};
@@ -91,6 +91,7 @@ fn end_turn<P: Held>(seat: &mut Seat<P>, shelf: Shelf<P>) -> u64
         × ((seat_state seat.new) ≡ (with_given book (with_raised result (seat_view seat.old)), []))
         × (hist book result ≡ hist (seat_view seat.old).turn.book result)
         × IsWhole (seat_count seat.old) (given_of book (with_raised result (seat_view seat.old))) }
+    ensures drawn { HasDrawn (seat_view seat.old) → HasDrawn (seat_view seat.new) }
     ensures same { IsSameSeat seat.old seat.new }
 {
     let mut shelf = shelf;

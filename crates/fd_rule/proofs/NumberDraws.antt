@@ -1,5 +1,5 @@
 -- Drawing a number keeps the rule.
-use Rattle.std.proofs.Common.{◌≡◌, ◌≢◌, ℕ, ◌+◌, ◌^◌, ◌<◌, ◌≤◌, ◌%◌, false, List, [], ◌∷◌, set, sym, refl, ap, ◌∙◌, subst, arith, eqb, eq-eqb, ne_eqb}
+use Rattle.std.proofs.Common.{◌≡◌, ◌≢◌, ℕ, ◌+◌, ◌^◌, ◌<◌, ◌≤◌, ◌%◌, false, List, [], ◌∷◌, length, set, sym, refl, ap, ◌∙◌, subst, arith, length-append, eqb, eq-eqb, ne_eqb}
 use Rattle.std.proofs.Math.Nat.{mod-eq_of_lt}
 use mathlib.Core.Logic.{dite}
 use mathlib.Core.Option.{none, some}
@@ -12,8 +12,8 @@ use Rattle.fd_kinds.specs.declared.limits.TheConstants.{MOST_NUMBERS}
 use Rattle.fd_kinds.specs.Parts.{PartMeaning, loose_part}
 use Rattle.fd_kinds.specs.History.{IsSmall}
 use Rattle.fd_kinds.specs.Stores.{Written}
-use Rattle.fd_shelf.specs.Books.{Shelved}
-use Rattle.fd_shelf.specs.Histories.{in_row_order}
+use Rattle.fd_shelf.specs.Books.{Book, Shelved}
+use Rattle.fd_shelf.specs.Histories.{hist, in_row_order}
 use Rattle.fd_rule.specs.declared.limits.TheConstants.{MOST_SEATS}
 use Rattle.fd_rule.specs.Tables.{TableState, Seated, Sits, after, word}
 use Rattle.fd_rule.specs.View.{Hand, bare, laden, Draws, View}
@@ -129,14 +129,14 @@ module _ (P : Type 0) (means : P → PartMeaning) (start : Shelved) (seats : ℕ
   pub number_draw_event : (rows : List Row) (id : ℕ) (s t : TableState P) → Rule s → Happens rows id s t → Rule t
   number_draw_event rows id s t r h = subst (λ x. Rule x) (sym h.becomes) (keeps_number rows s r id h.view h.sits h.may h.small)
 
-  pub allows_number_draw : (slots id : ℕ) (rows : List Row) (me : Seated P) → me.0.place.spent ≡ false → MayDraw me.0.draws → IsSmall rows → Allows Rule slots id me 0 (λ n. (n + 1) % 2 ^ 64) (told rows (step slots 0 1 0 none) me)
-  allows_number_draw slots id rows me live may few_bytes s r deep at small = let v : View = me.0 in let sits : Sits s id v = record { at = at; live = live } in let x : ℕ = word s 0 in let now : x ≡ r.g.drawn = r.words.drawn_is in let d = r.draws.known id v at in let number = (r.roster.places.known id v at).number live in
-      let o = r.order in let opening_low = o.opening_low in let ordered = o.marks_drawn in let bounded = o.small in let can = may.cleared in let one : one_if v.draws.cleared ≡ 1 = ap one_if can in let mine_too = sum_one clearance s.views id v at in let room = r.counts.room (omega arith) in let count = r.roster.count in let few = r.roster.few in
+  pub allows_number_draw : (counted : (book : Book) (mark : ℕ) → length (hist book mark) ≡ mark) (slots id : ℕ) (rows : List Row) (me : Seated P) → me.0.place.spent ≡ false → MayDraw me.0.draws → IsSmall rows → Allows Rule slots id me 0 (λ n. (n + 1) % 2 ^ 64) (told rows (step slots 0 1 0 none) me)
+  allows_number_draw counted slots id rows me live may few_bytes s r deep at small = let v : View = me.0 in let sits : Sits s id v = record { at = at; live = live } in let x : ℕ = word s 0 in let now : x ≡ r.g.drawn = r.words.drawn_is in let d = r.draws.known id v at in let number = (r.roster.places.known id v at).number live in
+      let o = r.order in let opening_low = o.opening_low in let ordered = o.marks_drawn in let bounded = o.small in let k = r.saw.known id v at in let joined = ap length k.history.joined in let both = length-append v.seen.history k.history.more in let count_is = counted r.g.book r.g.mark in let unseen : length v.seen.history < x + 1 = omega arith in let can = may.cleared in let one : one_if v.draws.cleared ≡ 1 = ap one_if can in let mine_too = sum_one clearance s.views id v at in let room = r.counts.room (omega arith) in let count = r.roster.count in let few = r.roster.few in
       let most : MOST_NUMBERS ≡ 2 ^ 62 = refl in let seated : MOST_SEATS ≡ 64 = refl in let fits : x + 1 < 2 ^ 63 = omega arith in let next : (x + 1) % 2 ^ 64 ≡ x + 1 = mod-eq_of_lt (omega arith) in let f = is_free P means start seats s r id v at may.empty may.landed in
       let home_is : get_elem? s.homes (1 + id) ≡ some (some Empty) = (subst (LaneOk means r.g.batch_of (r.g.lane id) (get_elem? s.homes (1 + id))) f.1 (r.lanes.ok id f.0)).1 in (
         with_number (x + 1) rows v,
         takes (1 + id) Empty,
         home_is,
         subst (λ (n : ℕ). Rule (after s 0 n (set s.homes (1 + id) none) id (with_number (x + 1) rows v))) (sym next) (keeps_number rows s r id v sits may few_bytes),
-        (ap (λ z. (with_number (x + 1) rows v, (1 + z, Empty) ∷ me.1)) (sym number), fits, tops_of r.g.drawn (x + 1) v.draws.own (omega arith) (all_map v.draws.own (λ q y. y.below) d.own)),
+        (ap (λ z. (with_number (x + 1) rows v, (1 + z, Empty) ∷ me.1)) (sym number), fits, tops_of r.g.drawn (x + 1) v.draws.own (omega arith) (all_map v.draws.own (λ q y. y.below) d.own), unseen),
       )

@@ -8,9 +8,9 @@ use Rattle.fd_kinds.specs.History.{History}
 use Rattle.fd_kinds.specs.Stores.{Grows}
 use Rattle.fd_shelf.specs.Books.{Book, Shelved}
 use Rattle.fd_shelf.specs.Marks.{IsBook}
-use Rattle.fd_shelf.specs.Histories.{hist}
+use Rattle.fd_shelf.specs.Histories.{hist, in_row_order}
 use Rattle.fd_shelf.specs.Numbers.{Keeps}
-use Rattle.fd_rule.specs.Lists.{AllHeld}
+use Rattle.fd_rule.specs.Lists.{AllHeld, AllAsDrawn}
 use Rattle.fd_rule.specs.Tables.{TableState, Seated, Sits, after}
 use Rattle.fd_rule.specs.View.{Hand, View}
 use Rattle.fd_rule.specs.Rule.{Each, seen, looked, LaneOk, one_if, holding, HandOk, Saw, Ruled}
@@ -71,6 +71,11 @@ module _ (P : Type 0) (means : P → PartMeaning) (start : Shelved) (seats : ℕ
   all_held sh s r id v sits may empty = let at = sits.at in let h = r.hands.known id v at may.holds in let d = r.draws.known id v at in let same_rows : SameRows r.g.book sh.book = subst (λ (x : Book). SameRows x sh.book) h.book_is may.rows in
       all_map v.draws.own (λ q x n. ⊎_elim (λ y. same_rows.forth q.number y) (λ e. let z = d.empty empty in let a = x.above in absurd (omega arith)) (x.landed n)) d.own
 
+  -- each of its numbers that is in the book has the rows that it was drawn for
+  all_as_drawn : (sh : Shelved) (s : TableState P) (r : Rule s) (id : ℕ) (v : View) → Sits s id v → MayReturn sh v → AllAsDrawn sh.book v.draws.own
+  all_as_drawn sh s r id v sits may = let at = sits.at in let h = r.hands.known id v at may.holds in let same_rows : SameRows r.g.book sh.book = subst (λ (x : Book). SameRows x sh.book) h.book_is may.rows in
+      all_map v.draws.own (λ o y x. let a = y.above in batch_same r.g.book sh.book o.number (omega arith) (same_rows.history o.number) ∙ (r.booked.rows o.number y.above (same_rows.back o.number x) ∙ ap in_row_order y.rows)) (r.draws.known id v at).own
+
   pub allows_turn_return : (slots id : ℕ) (me : Seated P) (sh : Shelved) → me.0.place.spent ≡ false → IsBook sh.book sh.mark → MayReturn sh me.0 → me.1 ≡ (0, Home sh) ∷ others me.1
       → Allows Rule slots id me 2 (λ _. 0) (λ _. told (step slots 2 0 0 none) me 0)
   allows_turn_return slots id me sh live order may carried s r deep at small = let v : View = me.0 in let sits : Sits s id v = record { at = at; live = live } in let book_now : book_in me.1 ≡ sh.book = ap book_in carried in (
@@ -78,5 +83,9 @@ module _ (P : Type 0) (means : P → PartMeaning) (start : Shelved) (seats : ℕ
     gives,
     tt,
     subst (λ (x : Book). Rule (stepped s 2 0 id me.1 (with_given x v) gives)) (sym book_now) (subst (λ (c : List (ℕ × SlotValue P)). Rule (stepped s 2 0 id c (with_given sh.book v) gives)) (sym carried) (keeps_given sh s r id v sits order may)),
-    (refl, λ empty. subst (λ (x : Book). AllHeld v.draws.flight x v.draws.own) (sym book_now) (all_held sh s r id v sits may empty)),
+    (
+      refl,
+      (λ empty. subst (λ (x : Book). AllHeld v.draws.flight x v.draws.own) (sym book_now) (all_held sh s r id v sits may empty)),
+      subst (λ (x : Book). AllAsDrawn x v.draws.own) (sym book_now) (all_as_drawn sh s r id v sits may),
+    ),
   )

@@ -9,7 +9,8 @@ use Rattle.atomic_table.specs.Table.{step, keeps, takes, Allows}
 use Rattle.atomic_table.proofs.Lists.{set_else}
 use Rattle.fd_kinds.specs.Parts.{PartMeaning}
 use Rattle.fd_shelf.specs.Books.{Book, Shelved}
-use Rattle.fd_shelf.specs.Histories.{hist}
+use Rattle.fd_shelf.specs.Histories.{hist, in_row_order}
+use Rattle.fd_rule.specs.Lists.{AllAsDrawn}
 use Rattle.fd_rule.specs.Tables.{TableState, Seated, Sits, after, word}
 use Rattle.fd_rule.specs.View.{View}
 use Rattle.fd_rule.specs.Rule.{LaneOk, holding, Ruled}
@@ -20,7 +21,7 @@ use Rattle.fd_rule.proofs.Sets.{length_set, load, store_taken}
 use Rattle.fd_rule.proofs.Sums.{sum_set, sum_one}
 use Rattle.fd_rule.proofs.PinChanges.{pins_same, below_pin}
 use Rattle.fd_rule.proofs.BookChanges.{keeps_same, grows_same}
-use Rattle.fd_rule.proofs.Keep.{roster_same, lives_same, numbers_same, seats_same, splitters_same, room_same, looks}
+use Rattle.fd_rule.proofs.Keep.{all_map, roster_same, lives_same, numbers_same, seats_same, splitters_same, room_same, looks}
 use Rattle.fd_rule.specs.Kinds.TurnTry.{Happens, HappensFree, HappensHeld, with_book, with_refusal, told}
 
 module _ (P : Type 0) (means : P → PartMeaning) (start : Shelved) (seats : ℕ) where
@@ -65,6 +66,10 @@ module _ (P : Type 0) (means : P → PartMeaning) (start : Shelved) (seats : ℕ
   keeps_refusal s r id v sits = let at = sits.at in let t : ℕ = word s 2 in let w : View = with_refusal t v in
       looks P means start seats s r id v w (set s.words 2 t) r.g.pin r.g.pinned at sits.live refl refl refl refl (room_same id v w at r.counts refl) (load r.words 2) (r.draws.known id v at) (r.hands.known id v at) (r.saw.known id v at) (r.kept.known id v at) (pins_same r.pins id v w at refl)
 
+  -- what the seat drew has its rows in the book
+  all_as_drawn : (s : TableState P) (r : Rule s) (id : ℕ) (v : View) → get_elem? s.views id ≡ some v → AllAsDrawn r.g.book v.draws.own
+  all_as_drawn s r id v at = all_map v.draws.own (λ o y x. r.booked.rows o.number y.above x ∙ ap in_row_order y.rows) (r.draws.known id v at).own
+
   pub turn_try_event : (id : ℕ) (s t : TableState P) → Rule s → Happens id s t → Rule t
   turn_try_event id s t r happens = ⊎_elim
       (λ (h : HappensFree id s t). subst (λ x. Rule x) (sym h.becomes) (keeps_book s r id h.view h.shelf h.sits h.free h.home))
@@ -77,7 +82,7 @@ module _ (P : Type 0) (means : P → PartMeaning) (start : Shelved) (seats : ℕ
         takes 0 (Home b),
         h.1,
         subst (λ (n : ℕ). Rule (after s 2 n (set s.homes 0 none) id (with_book b v))) (sym (ap (λ c. either c mine t) (eq-eqb t 0 hit) ∙ is_own)) (keeps_book s r id v b sits hit h.1),
-        ((λ _. (b, refl, record { grows = k.history; count = counted r.g.book r.g.mark; bounded = omega arith; marks = k.marks; kept = r.kept.known id v at; sealed = λ n y. below_pin r.pins n id v at (r.sealed n y) })), λ not. absurd (not hit)),
+        ((λ _. (b, refl, record { grows = k.history; count = counted r.g.book r.g.mark; bounded = omega arith; marks = k.marks; held = r.booked.marked; drawn = all_as_drawn s r id v at; kept = r.kept.known id v at; sealed = λ n y. below_pin r.pins n id v at (r.sealed n y) })), λ not. absurd (not hit)),
       ))
       (λ miss. (
         with_refusal t v,

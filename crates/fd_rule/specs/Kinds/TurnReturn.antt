@@ -7,7 +7,7 @@ use Rattle.fd_shelf.specs.Marks.{IsBook}
 use Rattle.fd_shelf.specs.Histories.{hist}
 use Rattle.fd_shelf.specs.Numbers.{IsIn, IsInSealed, Keeps, first_unsealed}
 use Rattle.fd_shelf.specs.Steps.{empty_book}
-use Rattle.fd_rule.specs.Lists.{In, AllHeld}
+use Rattle.fd_rule.specs.Lists.{In, AllHeld, AllAsDrawn}
 use Rattle.fd_rule.specs.Tables.{TableState, Seated, Sits, after}
 use Rattle.fd_rule.specs.View.{View, Given, no_turn, bare}
 use Rattle.fd_rule.specs.declared.slot.SlotValue.{SlotValue}
@@ -60,9 +60,10 @@ book_in ((k, Home b) ∷ xs) = b.book
 book_in ((k, Empty) ∷ xs) = empty_book
 book_in ((k, Landed p) ∷ xs) = empty_book
 
--- Where the seat knows its lane empty, its landed numbers are in the book.
+-- Where the seat knows its lane empty, its landed numbers are in the book; and each of its numbers that is there has the rows
+-- that it was drawn for.
 abbrev pub told : {P : Type 0} → Step (SlotValue P) → Seated P → ℕ → Seated P → Type 0
-told st m r m' = (m' ≡ (with_given (book_in m.1) m.0, rest m.1)) × (m.0.draws.empty ≡ true → AllHeld m.0.draws.flight (book_in m.1) m.0.draws.own)
+told st m r m' = (m' ≡ (with_given (book_in m.1) m.0, rest m.1)) × (m.0.draws.empty ≡ true → AllHeld m.0.draws.flight (book_in m.1) m.0.draws.own) × AllAsDrawn (book_in m.1) m.0.draws.own
 
 -- the step on the table
 pub record Happens {P : Type 0} (shelf : Shelved) (id : ℕ) (s t : TableState P) : Type 0 where

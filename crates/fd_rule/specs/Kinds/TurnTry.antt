@@ -8,8 +8,8 @@ use Rattle.fd_kinds.specs.Stores.{Grows}
 use Rattle.fd_shelf.specs.Books.{Shelved, all_parts}
 use Rattle.fd_shelf.specs.Books.{Each as AllOf}
 use Rattle.fd_shelf.specs.Histories.{hist}
-use Rattle.fd_shelf.specs.Numbers.{IsInSealed, Keeps}
-use Rattle.fd_rule.specs.Lists.{AllUpto, In}
+use Rattle.fd_shelf.specs.Numbers.{IsIn, IsInSealed, Keeps}
+use Rattle.fd_rule.specs.Lists.{AllUpto, AllAsDrawn, In}
 use Rattle.fd_rule.specs.Tables.{TableState, Seated, Sits, after, word}
 use Rattle.fd_rule.specs.View.{View, PinState, idle, arriving, settled, bare}
 use Rattle.fd_rule.specs.declared.slot.SlotValue.{SlotValue}
@@ -31,13 +31,16 @@ Below r (arriving ws) = (w : ℕ) → In w ws → r ≤ w
 Below r (settled w) = r ≤ w
 
 -- The shelf of a new turn against what the seat knew: its history begins with the one that the seat has seen, and reaches
--- each mark that it has loaded; its book keeps what it should of those that the seat knows; and no number is sealed above a
--- watermark that the seat may rest on.
+-- each mark that it has loaded; its book has each number up to its mark, and of those that the seat drew the rows that they
+-- were drawn for; it keeps what it should of those that the seat knows; and no number is sealed above a watermark that the
+-- seat may rest on.
 pub record Later (b : Shelved) (v : View) : Type 0 where
   pub grows : Grows v.seen.history (hist b.book b.mark)
   pub count : length (hist b.book b.mark) ≡ b.mark
   pub bounded : b.mark < 2 ^ 63
   pub marks : AllUpto b.mark v.seen.marks
+  pub held : (n : ℕ) → 0 < n → n ≤ b.mark → IsIn n (all_parts b.book)
+  pub drawn : AllAsDrawn b.book v.draws.own
   pub kept : AllOf (λ book. Keeps book b.book) v.books
   pub sealed : (n : ℕ) → IsInSealed n (all_parts b.book) → Below n v.pinning.state
 

@@ -1,4 +1,4 @@
-ghost use Rattle.std.specs.Prelude.{◌≡◌, ◌<◌, ◌+◌, ◌^◌, ◌∷◌};
+ghost use Rattle.std.specs.Prelude.{◌≡◌, ◌<◌, ◌+◌, ◌^◌, ◌∷◌, length};
 ghost use Rattle.fd_kinds.specs.History.{IsSmall};
 ghost use Rattle.fd_kinds.specs.Parts.{rows_of};
 ghost use Rattle.fd_rule.specs.Kinds.NumberDraw.{MayDraw, with_number};
@@ -9,6 +9,7 @@ ghost use Rattle.fd_rule.specs.declared.slot.SlotValue.TheVariants.{Empty};
 use crate::plays::{Drawn, NumberDraw};
 use crate::seat::Seat;
 use fd_kinds::Held;
+use fd_shelf::book_laws;
 use std::marker::Brand;
 
 fn draw_for<P: Held, B: Drawn>(seat: &mut Seat<P>, part: &P) -> u64
@@ -23,9 +24,11 @@ fn draw_for<P: Held, B: Drawn>(seat: &mut Seat<P>, part: &P) -> u64
     ensures some { 0 < result }
     ensures bounded { result < 2 ^ 63 }
     ensures above { Tops result (seat_view seat.old).draws.own }
+    ensures unseen { length (seat_view seat.old).seen.history < result }
     ensures same { IsSameSeat seat.old seat.new }
 {
     let _ = part;
+    book_laws();
     seat.board
         .shared
         .fetch_add::<NumberDraw<B>>(&mut seat.inner, 0, 1)
@@ -45,6 +48,7 @@ pub fn draw<P: Held>(seat: &mut Seat<P>, part: &P) -> u64
     ensures some { 0 < result }
     ensures bounded { result < 2 ^ 63 }
     ensures above { Tops result (seat_view seat.old).draws.own }
+    ensures unseen { length (seat_view seat.old).seen.history < result }
     ensures same { IsSameSeat seat.old seat.new }
 {
     draw_for::<P, Brand>(seat, part)

@@ -1,7 +1,7 @@
 ghost use Rattle.std.specs.Prelude.{◌≡◌, ◌∷◌, true};
 ghost use Rattle.atomic_table.specs.Table.{rest};
 ghost use Rattle.fd_rule.specs.Kinds.TurnReturn.{MayReturn, with_given};
-ghost use Rattle.fd_rule.specs.Lists.{AllHeld};
+ghost use Rattle.fd_rule.specs.Lists.{AllAsDrawn, AllHeld};
 ghost use Rattle.fd_rule.specs.Seats.{IsSameSeat, seat_slots, seat_state, seat_view};
 ghost use Rattle.fd_rule.specs.declared.slot.SlotValue.TheVariants.{Empty};
 
@@ -24,6 +24,9 @@ pub fn give_turn<P: Held>(seat: &mut Seat<P>, shelf: Shelf<P>)
         (seat_view seat.old).draws.flight
         shelf.book
         (seat_view seat.old).draws.own }
+
+    // What the seat drew stands there with its rows, where it stands there.
+    ensures drawn { AllAsDrawn shelf.book (seat_view seat.old).draws.own }
     ensures same { IsSameSeat seat.old seat.new }
 {
     shelf.is_in_order();

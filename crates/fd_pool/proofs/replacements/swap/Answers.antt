@@ -2,6 +2,7 @@ use Rattle.std.proofs.Common.{sym, subst, refl, ap}
 use Rattle.fd_rule.specs.Kinds.TurnReturn.{given_of}
 use Rattle.fd_rule.specs.Tables.{Seated}
 use Rattle.fd_shelf.specs.Histories.{hist}
+use Rattle.fd_shelf.specs.Marks.{IsBook}
 use Rattle.fd_shelf.specs.Replacement.{replaced}
 use Rattle.fd_pool.specs.Turns.{Turned, with_refusals}
 use Rattle.fd_pool.proofs.Replaced.{rows_later}
@@ -23,4 +24,4 @@ returns-clause-ok g c = let w = c.wait_for_turn-shelf.ensures.taken in let shelf
 pub returns-clause-err : goal.returns-clause-err
 returns-clause-err g c = let w = c.wait_for_turn-shelf.ensures.taken in let shelf = c.wait_for_turn-shelf.result in let v = c.args.seat.now.inner.me.0 in let mid = c.wait_for_turn-shelf.new.seat.inner.me in
     let given = given_of shelf.book mid.0 in
-    if_err_then c.swap_taken.result (λ why x. (given, subst (λ (m : Seated g.row.P.Denot). Turned v given m.0) (sym x.1) (turned v shelf mid shelf.book w refl), x.0)) c.swap_taken.ensures.err
+    if_err_then c.swap_taken.result (λ why x. (given, subst (λ (m : Seated g.row.P.Denot). Turned v given m.0) (sym x.1) (turned v shelf mid shelf.book w refl), record { order = subst (λ (m : Seated g.row.P.Denot). IsBook shelf.book m.0.turn.mark) (sym w.me) c.is_in_order.ensures.book; known = w.later.kept; back = x.0 })) c.swap_taken.ensures.err

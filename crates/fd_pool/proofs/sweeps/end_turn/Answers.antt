@@ -1,13 +1,16 @@
-use Rattle.std.proofs.Common.{rules, sym, ap, ◌∙◌, subst, ℕ, ◌+◌, ◌<◌, true, arith, ◌≡◌}
+use Rattle.std.proofs.Common.{rules, sym, ap, ◌∙◌, subst, ℕ, ◌+◌, ◌<◌, ◌≤◌, true, arith, ◌≡◌}
 use Rattle.atomic_table.specs.Table.{rest}
+use Rattle.fd_kinds.specs.Stores.{Holds}
 use Rattle.fd_shelf.specs.Books.{Book, all_parts}
 use Rattle.fd_shelf.specs.Histories.{hist}
 use Rattle.fd_shelf.specs.Numbers.{IsIn}
 use Rattle.fd_rule.specs.Kinds.MarkRaise.{MayRaise, with_raised}
 use Rattle.fd_rule.specs.Kinds.TurnReturn.{MayReturn, with_given}
-use Rattle.fd_rule.specs.Lists.{AllHeld}
+use Rattle.fd_rule.specs.Lists.{AllAsDrawn, AllHeld}
 use Rattle.fd_rule.specs.Tables.{Seated}
 use Rattle.fd_rule.specs.View.{View}
+use Rattle.fd_pool.specs.Kept.{HasDrawn, in_order}
+use Rattle.fd_pool.proofs.DrawnRows.{drawn_held}
 use Rattle.fd_pool.proofs.SweptLanes.{may_raise, may_return, sweep_hand}
 use Rattle.fd_pool.proofs.sweeps.end_turn.Goals as goal
 
@@ -34,3 +37,11 @@ returns-clause-whole g c = let r = c.requires.so_far in let book = c.advance-mar
         gap = λ h. c.book_laws.ensures.gap c.advance-mark.new.self c.is_in_order.ensures.book c.advance-mark.ensures.gap (subst (λ n. IsIn (n + 1) (all_parts book)) c.advance-mark.ensures.mark h);
       },
     )
+
+pub returns-clause-drawn : goal.returns-clause-drawn
+returns-clause-drawn g c before = let new = c.advance-mark.new.self in let book = new.book in let mark = c.advance-mark.result in let v : View = c.args.seat.now.inner.me.0 in let up = c.raise_mark.ensures.me in
+    let seen : hist book mark ≡ hist v.turn.book mark = c.advance-mark.ensures.history mark ∙ ap (λ (b : Book). hist b mark) (sym c.requires.so_far.book) in
+    let drawn : AllAsDrawn book v.draws.own = subst (λ (m : Seated g.row.P.Denot). AllAsDrawn book m.0.draws.own) up c.give_turn.ensures.drawn in
+    subst (λ (m : Seated g.row.P.Denot). HasDrawn m.0) (sym (c.give_turn.ensures.me ∙ ap (λ (m : Seated g.row.P.Denot). (with_given book m.0, rest m.1)) up))
+    (subst (λ h. Holds h (in_order v.draws.own)) seen
+    (drawn_held book mark (c.book_laws.ensures.count book mark) (λ n a b. c.book_laws.ensures.held book new.mark n c.is_in_order.ensures.book a (subst (λ m. n ≤ m) c.advance-mark.ensures.mark b)) v.seen.history v.draws.own drawn before))

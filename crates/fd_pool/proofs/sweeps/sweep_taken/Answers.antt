@@ -6,6 +6,7 @@ use Rattle.fd_rule.specs.Tables.{Seated}
 use Rattle.fd_rule.specs.View.{View}
 use Rattle.fd_shelf.specs.Books.{Book}
 use Rattle.fd_shelf.specs.Histories.{hist}
+use Rattle.fd_pool.specs.Kept.{HasDrawn}
 use Rattle.fd_pool.specs.Sweeps.{GaveBack, Sweeping}
 use Rattle.fd_pool.proofs.SweptLanes.{gave_swept, gave_up, sweep_begin, sweep_self}
 use Rattle.fd_pool.proofs.TurnSteps.{hist_grows}
@@ -33,7 +34,8 @@ returns-clause-swept g c v free later is = let w = c.end_turn-mark.ensures.whole
     let given = given_of book (with_raised mark mid.0) in (
       given,
       subst (λ (m : Seated g.row.P.Denot). GaveBack v given m.0) (sym w.1)
-          (gave_swept g.P.Held.means c.args.seat.now.board.now.shared.key.seats v c.args.shelf c.gather.new.shelf mid c.count-seats.result mark book later (hist_grows mid.0.turn.book mid.0.turn.mark mark c.end_turn-mark.ensures.rises) r w.2),
+          (gave_swept g.P.Held.means c.args.seat.now.board.now.shared.key.seats v c.args.shelf c.gather.new.shelf mid c.count-seats.result mark book later (hist_grows mid.0.turn.book mid.0.turn.mark mark c.end_turn-mark.ensures.rises) r w.2
+          (subst (λ (m : Seated g.row.P.Denot). HasDrawn mid.0 → HasDrawn m.0) w.1 c.end_turn-mark.ensures.drawn)),
       subst (λ n. IsWhole n given) a w.3,
       refl,
     )

@@ -1,4 +1,4 @@
-use Rattle.std.proofs.Common.{rules, arith, sym, ap, ◌∙◌, subst, ◌<◌}
+use Rattle.std.proofs.Common.{rules, arith, sym, ap, ◌∙◌, subst, ◌<◌, length}
 use Rattle.fd_kinds.specs.declared.limits.TheConstants.{MOST_NUMBERS}
 use Rattle.fd_kinds.specs.Parts.{rows_of}
 use Rattle.fd_rule.specs.Kinds.BatchLanding.{MayLand, with_landed}
@@ -28,5 +28,6 @@ returns-clause-ok g c = let n = c.draw-number.result in let rows = rows_of (g.P.
   some = c.draw-number.ensures.some;
   bounded = c.draw-number.ensures.bounded;
   above = subst (λ (v : View). Tops n v.draws.own) first c.draw-number.ensures.above;
+  unseen = subst (λ (v : View). length v.seen.history < n) first c.draw-number.ensures.unseen;
   becomes = ap (λ (m : Seated g.row.P.Denot). m.0) c.land.ensures.me ∙ (ap (λ (m : Seated g.row.P.Denot). with_landed m.0) c.draw-number.ensures.me ∙ ap (λ (v : View). with_landed (with_number n rows v)) first);
 }

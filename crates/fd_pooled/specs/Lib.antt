@@ -1,0 +1,5 @@
+pub mod Calls
+pub mod Compactions
+pub mod Pooling
+pub mod Steps
+pub mod StoreLaws
