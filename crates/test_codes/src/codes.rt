@@ -156,7 +156,6 @@ const DICTIONARY: [u8; 23] = [
 ];
 
 /// Whether the cells of a page are written as that page, with the texts of the dictionary.
-#[tactic(auto, using(crate::proofs::Known::are_known))]
 fn is_written_again(alloc: Global, page: &[u8], required: bool) -> bool {
     let Ok((texts, _)) = read_dictionary(alloc, &DICTIONARY, 0) else {
         return false;
