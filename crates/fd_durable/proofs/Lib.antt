@@ -1,0 +1,5 @@
+pub mod BlockEnds
+pub mod Images
+pub mod LogRoom
+pub mod LogSteps
+pub mod Moving
