@@ -1,12 +1,13 @@
 ghost use Rattle.std.specs.Prelude.{◌≡◌, ◌<◌, ◌≤◌, ◌+◌, [], ◌∷◌, ◌++◌, length, if◌then◌else◌};
-ghost use Rattle.std.specs.Prelude.{flat_map, IfOk};
+ghost use Rattle.std.specs.Prelude.{flat_map, All, IfOk};
+ghost use Rattle.fd_kinds.specs.History.{IsSmall};
 ghost use Rattle.fd_kinds.specs.Parts.{rows_of};
 ghost use Rattle.fd_kinds.specs.declared.limits.TheConstants.{MOST_BATCH_BYTES, MOST_NUMBERS};
 ghost use Rattle.fd_shelf.specs.Books.{IsLoose, settled_parts, rows_in, bytes_of};
 ghost use Rattle.fd_shelf.specs.Histories.{hist, in_row_order};
 ghost use Rattle.fd_shelf.specs.Steps.{is_full};
 ghost use Rattle.fd_part.specs.Parts.{part_meaning};
-ghost use Rattle.fd_wal.specs.Runs.{rows_in as rows_of_batches, AreNumberedFrom};
+ghost use Rattle.fd_wal.specs.Runs.{rows_in as rows_of_batches, AreNumberedFrom, IsSmallBatch};
 
 use fd_kinds::{Batch, Batches, Held, NoMemory, NumberedBatch};
 use fd_part::Part;
@@ -58,8 +59,11 @@ pub(crate) fn all_parts(shelf: &Shelf<Part>) -> Result<Picked<Part>, NoMemory>
 
 /// The one batch under its number.
 pub(crate) fn numbered(number: u64, batch: Batch) -> Result<Batches, NoMemory>
+    requires small { IsSmall batch.rows }
+    ensures one { IfOk result (λ batches. length batches ≡ 1) }
     ensures rows { IfOk result (λ batches. rows_of_batches batches ≡ batch.rows ∷ []) }
     ensures numbers { IfOk result (AreNumberedFrom number) }
+    ensures small { IfOk result (All IsSmallBatch) }
 {
     let mut batches = Batches::new(batch.rows.allocator());
     batches.push(NumberedBatch { number, batch })?;
