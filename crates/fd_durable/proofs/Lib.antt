@@ -3,3 +3,4 @@ pub mod Images
 pub mod LogRoom
 pub mod LogSteps
 pub mod Moving
+pub mod Views
