@@ -1,4 +1,4 @@
-ghost use Rattle.std.specs.Prelude.{◌≡◌, ◌≤◌, [], length, filter, None, is_some};
+ghost use Rattle.std.specs.Prelude.{◌≡◌, ◌≤◌, [], length, filter, None, is_some, false};
 ghost use Rattle.fd_kinds.specs.History.{IsOpened, history_of};
 ghost use Rattle.fd_device.specs.Disks.{Settled};
 ghost use Rattle.fd_shelf.specs.Histories.{hist};
