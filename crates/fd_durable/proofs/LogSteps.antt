@@ -95,12 +95,13 @@ module _ (shelf : Shelved) (order : IsBook shelf.book shelf.mark) (follows : Fol
       let last : highest shelf.book.active ≡ shelf.mark = used_ends (cut.mid + 1) shelf.mark shelf.book.active cut.goes_on (full_used shelf.book.active full) in
       let sum = both in
       let pushed = logs_pushed 0 closed (Logged (active ++ Rotation hi ∷ [])) in
-      let same : length (history_of (active ++ Rotation hi ∷ [])) ≡ length (history_of active) = ap length (ended_history active hi) in
-      (full,
+      let same : length (history_of (active ++ Rotation hi ∷ [])) ≡ length (history_of active) = ap length (ended_history active hi) in (
+        full,
         map-append highest shelf.book.closed (shelf.book.active ∷ [])
-        ∙ ap (λ ends. ends ++ highest shelf.book.active ∷ []) level
-        ∙ ap (λ n. ends_behind 0 closed ++ n ∷ []) (last ∙ omega (arith, sum, same))
-        ∙ sym pushed)
+            ∙ ap (λ ends. ends ++ highest shelf.book.active ∷ []) level
+            ∙ ap (λ n. ends_behind 0 closed ++ n ∷ []) (last ∙ omega (arith, sum, same))
+            ∙ sym pushed,
+      )
 
   -- the log of a block has as many bytes as its rows
   pub log_size : IsPermutation (rows_of (rows_in (settled_parts shelf.book))) (upto (hist shelf.book shelf.mark) shelf.mark)

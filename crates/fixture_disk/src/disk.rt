@@ -154,12 +154,7 @@ pub fn begins(disk: &mut TestDisk, file: FileId, bytes: &[u8], size: u64) -> boo
 }
 
 /// What is in a log of at most 512 bytes, and None where it is damaged.
-pub fn read_log(
-    alloc: Global,
-    disk: &mut TestDisk,
-    block: u64,
-    first: u64,
-) -> Option<Replayed> {
+pub fn read_log(alloc: Global, disk: &mut TestDisk, block: u64, first: u64) -> Option<Replayed> {
     let mut piece = [0u8; 512];
     let size = disk.length(log_of(block)).ok()?;
     if size > 512 {

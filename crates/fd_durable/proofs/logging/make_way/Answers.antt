@@ -84,15 +84,17 @@ returns-in-Ok-clause-ready g c = λ honest.
       keeper = c.in-Ok.ensures.ended honest st.closed st.active st.keeper;
       history = c.keeping_laws.ensures.ended st.closed st.active old.synced ∙ st.history;
       ready =
-          inr
-          (⊎_elim
-          (λ (level : IsLevel st.closed shelf.book).
-          let many = as_many_blocks st.closed shelf.book.closed level in
-          ended_is_ahead shelf order (subst (λ (end : ℕ). Follows 1 (settled_parts shelf.book) end) (sym order.ends) order.well_formed.settled) order.well_formed.used st.closed st.active level st.history c.history_laws.ensures.count old.synced
-          (level_full (is_full shelf.book.active) (length shelf.book.closed) c.next_block.result c.block.result c.next_block.ensures (omega (arith, c.if-next_block-block.false)) (block ∙ sym many)))
-          (λ (ahead : IsAhead st.closed shelf.book × (history_of st.active ≡ [])).
-          let many = as_many_blocks st.closed _ ahead.0.1 in
-          absurd (not_ahead (is_full shelf.book.active) (length shelf.book.closed) c.next_block.result c.block.result c.next_block.ensures (omega (arith, c.if-next_block-block.false)) ahead.0.0
-          (block ∙ sym many ∙ pushed_count shelf.book.closed shelf.book.active)))
-          st.blocks, refl);
+          inr (
+            ⊎_elim
+                (λ (level : IsLevel st.closed shelf.book).
+                let many = as_many_blocks st.closed shelf.book.closed level in
+                ended_is_ahead shelf order (subst (λ (end : ℕ). Follows 1 (settled_parts shelf.book) end) (sym order.ends) order.well_formed.settled) order.well_formed.used st.closed st.active level st.history c.history_laws.ensures.count old.synced
+                (level_full (is_full shelf.book.active) (length shelf.book.closed) c.next_block.result c.block.result c.next_block.ensures (omega (arith, c.if-next_block-block.false)) (block ∙ sym many)))
+                (λ (ahead : IsAhead st.closed shelf.book × (history_of st.active ≡ [])).
+                let many = as_many_blocks st.closed _ ahead.0.1 in
+                absurd (not_ahead (is_full shelf.book.active) (length shelf.book.closed) c.next_block.result c.block.result c.next_block.ensures (omega (arith, c.if-next_block-block.false)) ahead.0.0
+                (block ∙ sym many ∙ pushed_count shelf.book.closed shelf.book.active)))
+                st.blocks,
+            refl,
+          );
     }
