@@ -1,3 +1,4 @@
+pub mod Joining
 pub mod BlockEnds
 pub mod Images
 pub mod LogRoom

@@ -1,19 +1,21 @@
 -- What a store is seen as: its history, cut behind the batches that it was opened with, its disk, and whether that failed.
-use Rattle.std.specs.Prelude.{◌≡◌, ◌↔◌, ℕ, zero, suc, ◌+◌, ◌≤◌, ◌<◌, Bool, true, false, List, [], ◌∷◌, ◌++◌, take, drop, length, refl, Option, Some, None, is_some, Ok, Err, Result, OnOk, is_err}
+use Rattle.std.specs.Prelude.{◌≡◌, ◌⊎◌, ◌↔◌, ℕ, zero, suc, ◌+◌, ◌≤◌, ◌<◌, Bool, true, false, List, [], ◌∷◌, ◌++◌, take, drop, length, refl, Option, Some, None, is_some, Ok, Err, Result, OnOk, is_err}
 use Rattle.std.proofs.Common.{arith, ap, sym, ◌∙◌, subst, inl, inr, true≢false}
 use Rattle.fd_kinds.specs.declared.limits.TheConstants.{MOST_LOOSE_PARTS, MOST_NUMBERS}
 use Rattle.fd_kinds.specs.declared.row.Row.{Row}
 use Rattle.fd_kinds.specs.declared.store.WriteRefusal.{WriteRefusal}
 use Rattle.fd_kinds.specs.declared.store.WriteRefusal.TheVariants as write
 use Rattle.fd_kinds.specs.History.{History, LocalView, Adds, history_of}
+use Rattle.fd_kinds.specs.Parts.{rows_of, with_number}
 use Rattle.fd_device.specs.Disks.{Files, Settled}
 use Rattle.fd_device.specs.Moments.{LeavesOnly}
-use Rattle.fd_shelf.specs.Books.{Shelved}
+use Rattle.fd_shelf.specs.Books.{Book, Shelved}
 use Rattle.fd_shelf.specs.Histories.{hist}
 use Rattle.fd_keeper.specs.Blocks.{RecoversTo}
 use Rattle.fd_keeper.specs.Keepers.{Kept}
 use Rattle.fd_durable.specs.Durable.{Held, Whole, Moved, WritesThrough, pending_of}
-use Rattle.fd_durable.specs.Logs.{StandsFor, HasLogged}
+use Rattle.fd_wal.specs.Logs.{history_of as logged_history}
+use Rattle.fd_durable.specs.Logs.{StandsFor, HasLogged, IsLevel, IsAhead}
 use Rattle.fd_durable.proofs.Moving.{wrote, failed, left_out}
 
 -- the first batches and the others
@@ -143,3 +145,32 @@ module _ {D : Type 0} (honest : D → Type 0) (seen : D → Files) (may_leave : 
   gives_err (write.Spent drawn) now_fault unspent met counts_now moments wants now settled = absurd (unspent drawn refl)
   gives_err write.NoMemory now_fault unspent met counts_now moments wants now settled =
       gives_wanting now_fault (λ h. wants h refl) (λ h. now h refl) (λ h. settled h refl)
+
+-- ---- what a store keeps
+
+-- rows do not change by their numbers
+pub rows_of_numbered : (n : ℕ) (rows : List Row) → rows_of (with_number n rows) ≡ rows
+rows_of_numbered n [] = refl
+rows_of_numbered n (r ∷ rows) = ap (λ rs. r ∷ rs) (rows_of_numbered n rows)
+
+pub none_of : (fault : Option ℕ) → is_some fault ≡ false → fault ≡ None
+none_of None none = refl
+none_of (Some count) none = absurd (true≢false none)
+
+-- a refusal that leaves the disk without a fault is want of memory
+pub only_wanting : (refusal : WriteRefusal) (fault : Option ℕ) (count : ℕ) → ((drawn : ℕ) → refusal ≡ write.Spent drawn → ⊥) → (refusal ≡ write.DiskFault → fault ≡ Some count)
+    → fault ≡ None → refusal ≡ write.NoMemory
+only_wanting write.NoMemory fault count drawn failed none = refl
+only_wanting (write.Spent n) fault count drawn failed none = absurd (drawn n refl)
+only_wanting write.DiskFault fault count drawn failed none = absurd (true≢false (ap is_some (sym (failed refl) ∙ none)))
+
+-- a shelf with the same book and mark
+pub stands_same : {D : Type 0} (seen : D → Files) (may_leave : D → Files → Type 0) (kept : Kept D) (old new : Shelved) → new.book ≡ old.book → new.mark ≡ old.mark
+    → StandsFor seen may_leave kept old → StandsFor seen may_leave kept new
+stands_same seen may_leave kept old new book mark stands = record {
+  closed = stands.closed;
+  active = stands.active;
+  keeper = stands.keeper;
+  history = stands.history ∙ (ap (λ b. hist b old.mark) (sym book) ∙ ap (hist new.book) (sym mark));
+  blocks = subst (λ (b : Book). IsLevel stands.closed b ⊎ (IsAhead stands.closed b × (logged_history stands.active ≡ []))) (sym book) stands.blocks;
+}

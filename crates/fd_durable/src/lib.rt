@@ -10,8 +10,10 @@
 //! ```
 #![tactic(auto)]
 
+mod laws;
 mod local;
 mod logging;
 mod shelving;
 
+pub use laws::moving_laws;
 pub use local::Local;

@@ -3,7 +3,6 @@ use Rattle.std.proofs.lemmas.Result.{err_from_is_err_and}
 use Rattle.fd_kinds.specs.declared.store.WriteRefusal.{WriteRefusal}
 use Rattle.fd_kinds.specs.History.{History}
 use Rattle.fd_kinds.specs.Parts.{rows_of}
-use Rattle.fd_kinds.proofs.PartLaws.{rows_of_with_number}
 use Rattle.fd_device.specs.Disks.{Files}
 use Rattle.fd_device.specs.Moments.{LeavesOnly}
 use Rattle.fd_shelf.specs.Books.{Book}
@@ -13,8 +12,56 @@ use Rattle.fd_part.specs.Parts.{part_meaning}
 use Rattle.fd_wal.specs.Runs.{rows_in}
 use Rattle.fd_keeper.specs.Blocks.{RecoversTo}
 use Rattle.fd_durable.specs.Durable.{Held, Whole, WritesThrough}
-use Rattle.fd_durable.proofs.Views.{view_of, held_of, gives_ok, gives_err, few_left, stands_images, logged_images, wanting_is_no_fault, ok_is_no_fault}
+use Rattle.fd_durable.specs.Logs.{HasLogged}
+use Rattle.fd_durable.proofs.Views.{view_of, held_of, gives_ok, gives_err, few_left, stands_images, logged_images, wanting_is_no_fault, ok_is_no_fault, rows_of_numbered, none_of, only_wanting, stands_same}
+use Rattle.fd_durable.proofs.LogSteps.{admitted}
 use Rattle.fd_durable.proofs.local.LocalStore.write.Goals as goal
+
+pub log-requires-clause-count : goal.log-requires-clause-count
+log-requires-clause-count g c κs within =
+    let healthy : is_some c.self.inside.keeper.fault ≡ false = ap (λ (h : Held _). h.failed) c.self.view_is ∙ c.requires.healthy in
+    c.self.invariant.2 (none_of c.self.inside.keeper.fault healthy) ∙ sym c.in_ok-reserve.ensures.mark
+
+pub log-requires-clause-stands : goal.log-requires-clause-stands
+log-requires-clause-stands g c κs within = λ h.
+    let d = g.D.Disk in
+    let healthy : is_some c.self.inside.keeper.fault ≡ false = ap (λ (held : Held _). held.failed) c.self.view_is ∙ c.requires.healthy in
+    stands_same d.seen d.may_leave c.self.inside.keeper c.self.inside.shelf c.reserve.new.self c.in_ok-reserve.ensures.book c.in_ok-reserve.ensures.mark
+    (c.self.invariant.3 (none_of c.self.inside.keeper.fault healthy) h)
+
+pub invariant_of-self-in_err-log : goal.invariant_of-self-in_err-log
+invariant_of-self-in_err-log g c =
+    let log = c.in_err-log.ensures in
+    let wanting = only_wanting c.in_err-log.field-0.0 c.log.new.keeper.fault (g.D.Disk.faults c.log.new.keeper.disk) (λ drawn is. log.drawn drawn (ap Err is)) (λ is. log.failed (ap Err is)) in
+    (
+      ap (λ (b : Book). b.stragglers) c.in_ok-reserve.ensures.book ∙ c.self.invariant.0,
+      omega (arith, c.self.invariant.1, c.in_ok-reserve.ensures.mark),
+      λ none. log.count_kept (ap Err (wanting none)),
+      λ none h. log.stands (log.honesty.1 h) (ap Err (wanting none)),
+    )
+
+pub invariant_of-self-2 : goal.invariant_of-self-2
+invariant_of-self-2 g c =
+    let d = g.D.Disk in
+    let shelf = c.reserve.new.self in
+    let after = c.compact_full.new.shelf in
+    let rows = c.args.batch.rows in
+    let batch : rows_of (part_meaning c.in_ok-part.part).rows ≡ rows = ap (λ p. rows_of p.rows) c.in_ok-part.ensures ∙ rows_of_numbered 0 rows in
+    let gained : hist after.book after.mark ≡ hist shelf.book shelf.mark ++ rows ∷ [] =
+    ap (hist after.book) c.compact_full.ensures.mark
+    ∙ c.compact_full.ensures.history c.add.new.shelf.mark
+    ∙ c.add.ensures.history
+    ∙ ap (λ batch. hist shelf.book shelf.mark ++ in_row_order batch ∷ []) batch
+    ∙ ap (λ batch. hist shelf.book shelf.mark ++ batch ∷ []) (c.batch_laws.ensures.sorted rows c.args.batch.sorted) in
+    (
+      c.compact_full.ensures.stragglers ∙ c.add.ensures.alone,
+      omega (arith, c.self.invariant.1, c.in_ok-reserve.ensures.mark, c.add.ensures.mark, c.compact_full.ensures.mark),
+      λ none. c.in_ok-log.ensures.count ∙ sym c.add.ensures.mark ∙ sym c.compact_full.ensures.mark,
+      λ none h. admitted d.seen d.may_leave c.log.new.keeper shelf after rows
+          (subst (λ (more : History). HasLogged d.seen d.may_leave more c.log.new.keeper shelf) c.in_ok-batches.ensures.rows (c.in_ok-log.ensures.logged (c.log.ensures.honesty.1 h)))
+          gained
+          (c.compact_full.ensures.closed ∙ c.add.ensures.closed),
+    )
 
 pub returns-in_err-log-clause-gives : goal.returns-in_err-log-clause-gives
 returns-in_err-log-clause-gives g c =
@@ -64,7 +111,7 @@ returns-clause-gives g c =
     let same : hist inside.shelf.book inside.shelf.mark ≡ history = ap (λ b. hist b inside.shelf.mark) (sym c.in_ok-reserve.ensures.book) ∙ ap (hist shelf.book) (sym c.in_ok-reserve.ensures.mark) in
     let counted : c.drawn-drawn.result ≡ length history = c.drawn-drawn.ensures.count ∙ ap length same in
     let below : inside.opened ≤ length history = omega (arith, c.self.invariant.1, c.drawn-drawn.ensures.mark, counted) in
-    let batch : rows_of (part_meaning c.in_ok-part.part).rows ≡ rows = ap (λ p. rows_of p.rows) c.in_ok-part.ensures ∙ rows_of_with_number 0 rows in
+    let batch : rows_of (part_meaning c.in_ok-part.part).rows ≡ rows = ap (λ p. rows_of p.rows) c.in_ok-part.ensures ∙ rows_of_numbered 0 rows in
     let gained : hist after.book after.mark ≡ history ++ rows ∷ [] =
     ap (hist after.book) c.compact_full.ensures.mark
     ∙ c.compact_full.ensures.history c.add.new.shelf.mark
