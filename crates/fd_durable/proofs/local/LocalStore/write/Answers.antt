@@ -32,8 +32,7 @@ log-requires-clause-stands g c κs within = λ h.
 pub invariant_of-self-in_err-log : goal.invariant_of-self-in_err-log
 invariant_of-self-in_err-log g c =
     let log = c.in_err-log.ensures in
-    let wanting = only_wanting c.in_err-log.field-0.0 c.log.new.keeper.fault (g.D.Disk.faults c.log.new.keeper.disk) (λ drawn is. log.drawn drawn (ap Err is)) (λ is. log.failed (ap Err is)) in
-    (
+    let wanting = only_wanting c.in_err-log.field-0.0 c.log.new.keeper.fault (g.D.Disk.faults c.log.new.keeper.disk) (λ drawn is. log.drawn drawn (ap Err is)) (λ is. log.failed (ap Err is)) in (
       ap (λ (b : Book). b.stragglers) c.in_ok-reserve.ensures.book ∙ c.self.invariant.0,
       omega (arith, c.self.invariant.1, c.in_ok-reserve.ensures.mark),
       λ none. log.count_kept (ap Err (wanting none)),
@@ -52,8 +51,7 @@ invariant_of-self-2 g c =
     ∙ c.compact_full.ensures.history c.add.new.shelf.mark
     ∙ c.add.ensures.history
     ∙ ap (λ batch. hist shelf.book shelf.mark ++ in_row_order batch ∷ []) batch
-    ∙ ap (λ batch. hist shelf.book shelf.mark ++ batch ∷ []) (c.batch_laws.ensures.sorted rows c.args.batch.sorted) in
-    (
+    ∙ ap (λ batch. hist shelf.book shelf.mark ++ batch ∷ []) (c.batch_laws.ensures.sorted rows c.args.batch.sorted) in (
       c.compact_full.ensures.stragglers ∙ c.add.ensures.alone,
       omega (arith, c.self.invariant.1, c.in_ok-reserve.ensures.mark, c.add.ensures.mark, c.compact_full.ensures.mark),
       λ none. c.in_ok-log.ensures.count ∙ sym c.add.ensures.mark ∙ sym c.compact_full.ensures.mark,
