@@ -1,7 +1,7 @@
-use crate::disk::{TestDisk, holds, log_of, read_log, seal_of};
 use crate::keeping::{add, opened, rotate};
 use fd_device::Calls;
 use fd_keeper::{Keeper, KeeperFault};
+use fixture_disk::{TestDisk, holds, log_of, read_log, seal_of};
 use std::alloc::Global;
 use std::test::Fail;
 

@@ -1,7 +1,7 @@
-use crate::disk::{TestDisk, begins, holds, log_of, read_log, seal_of};
 use fd_device::{Calls, write_synced};
 use fd_keeper::{Keeper, KeeperFault};
 use fd_kinds::{Batches, Bytes, NoMemory, NumberedBatch};
+use fixture_disk::{TestDisk, begins, holds, log_of, read_log, seal_of};
 use fixtures::{CPU, MadeRow, joined, made_batch, made_rows};
 use sha2::{Digest, Sha256};
 use std::alloc::Global;

@@ -5,6 +5,4 @@
 #[cfg(test)]
 mod crashes;
 #[cfg(test)]
-mod disk;
-#[cfg(test)]
 mod keeping;

@@ -7,7 +7,7 @@ use fd_wal::{Replayed, replay};
 use std::alloc::Global;
 
 /// The log of a block.
-pub(crate) fn log_of(block: u64) -> FileId {
+pub fn log_of(block: u64) -> FileId {
     FileId {
         kind: FileKind::Log,
         block,
@@ -15,7 +15,7 @@ pub(crate) fn log_of(block: u64) -> FileId {
 }
 
 /// The seal of a block.
-pub(crate) fn seal_of(block: u64) -> FileId {
+pub fn seal_of(block: u64) -> FileId {
     FileId {
         kind: FileKind::Seal,
         block,
@@ -26,7 +26,7 @@ pub(crate) fn seal_of(block: u64) -> FileId {
 /// disk holds before a call, and looks there afterwards. A read, a write and a cut ask for the
 /// length first, which is a call of its own.
 #[derive(Drop)]
-pub(crate) struct TestDisk {
+pub struct TestDisk {
     disk: MemDisk,
     faults: u64,
 }
@@ -134,7 +134,7 @@ impl Disk for TestDisk {
 }
 
 /// Whether a file has exactly these bytes, at most 512.
-pub(crate) fn holds(disk: &mut TestDisk, file: FileId, bytes: &[u8]) -> bool {
+pub fn holds(disk: &mut TestDisk, file: FileId, bytes: &[u8]) -> bool {
     let mut piece = [0u8; 512];
     if bytes.len() > 512 || disk.length(file) != Ok(bytes.len() as u64) {
         return false;
@@ -144,7 +144,7 @@ pub(crate) fn holds(disk: &mut TestDisk, file: FileId, bytes: &[u8]) -> bool {
 }
 
 /// Whether a file begins with these bytes, at most 512, and has this length.
-pub(crate) fn begins(disk: &mut TestDisk, file: FileId, bytes: &[u8], size: u64) -> bool {
+pub fn begins(disk: &mut TestDisk, file: FileId, bytes: &[u8], size: u64) -> bool {
     let mut piece = [0u8; 512];
     if bytes.len() > 512 || disk.length(file) != Ok(size) {
         return false;
@@ -154,12 +154,7 @@ pub(crate) fn begins(disk: &mut TestDisk, file: FileId, bytes: &[u8], size: u64)
 }
 
 /// What is in a log of at most 512 bytes, and None where it is damaged.
-pub(crate) fn read_log(
-    alloc: Global,
-    disk: &mut TestDisk,
-    block: u64,
-    first: u64,
-) -> Option<Replayed> {
+pub fn read_log(alloc: Global, disk: &mut TestDisk, block: u64, first: u64) -> Option<Replayed> {
     let mut piece = [0u8; 512];
     let size = disk.length(log_of(block)).ok()?;
     if size > 512 {
