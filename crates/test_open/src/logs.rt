@@ -99,8 +99,11 @@ pub(crate) fn holds<D: Disk>(disk: &mut D, file: FileId, bytes: &[u8]) -> bool {
     read(disk, file, front) == Ok(true) && &*front == bytes
 }
 
-/// A frame with this payload, behind an open gate.
+/// A frame with this payload, behind an open gate. The payload has less than 65,536 bytes.
 pub(crate) fn frame_with(alloc: Global, payload: &[u8]) -> Result<Bytes, NoMemory> {
+    if payload.len() >= 65_536 {
+        return Err(NoMemory);
+    }
     let digest = Sha256::digest(payload);
     let size = (payload.len() as u32).to_le_bytes();
     joined(alloc, &[&[1], &size, digest.as_slice(), payload])
