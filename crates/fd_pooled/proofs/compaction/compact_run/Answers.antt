@@ -8,7 +8,7 @@ use Rattle.fd_shelf.specs.Steps.{lowest, highest}
 use Rattle.fd_shelf.specs.declared.picks.InBlock.{InBlock}
 use Rattle.fd_compact.specs.Runs.{IsSealOf}
 use Rattle.fd_pooled.specs.Compactions.{Puts}
-use Rattle.fd_pooled.proofs.Compacting.{ends, first_block}
+use Rattle.fd_pooled.proofs.Compacting.{ends, first_block, seen}
 use Rattle.fd_pooled.proofs.Passing.{looks_self}
 use Rattle.fd_pooled.proofs.compaction.compact_run.Goals as goal
 
@@ -23,6 +23,14 @@ returns-then-parts-lt-FEWEST-clause-looks g c = looks_self c.args.seat.now.inner
 
 pub returns-in_err-run-clause-looks : goal.returns-in_err-run-clause-looks
 returns-in_err-run-clause-looks g c = looks_self c.args.seat.now.inner.me.0
+
+pub put_run-requires-clause-rows : goal.put_run-requires-clause-rows
+put_run-requires-clause-rows g c = let picked = c.args.picked.now in let part = c.in_ok-run.run'.part in let same = c.as_slice-parts.ensures in
+    let long : length (map meaning_in picked) ≡ length picked = length-map picked meaning_in in
+    let count : length c.as_slice-parts.result.now ≡ length picked = ap length same in
+    let two : 2 ≤ length (map meaning_in picked) = omega (arith, c.if-parts-lt-FEWEST.false, count, long) in
+    let seals : IsSealOf (map meaning_in picked) (part_meaning part) = subst (λ (is : List (InBlock Part)). IsSealOf (map meaning_in is) (part_meaning part)) same c.in_ok-run.ensures.seals in
+    seen c.args.least.now.l c.requires.run.0 _ (map meaning_in picked) c.args.seat.now.inner.me.0 c.requires.run.1 two (part_meaning part) seals
 
 pub returns-clause-ends : goal.returns-clause-ends
 returns-clause-ends g c given listed = let picked = c.args.picked.now in let parts = c.as_slice-parts.result.now in let part = c.in_ok-run.run'.part in let x = c.index-parts-0.result in let same = c.as_slice-parts.ensures in
